@@ -1,0 +1,40 @@
+-- Laws of the draw. Assumes nothing.
+--
+--   part-le            no more is drawn than there is
+--   column-splits      ColumnSplits
+--   mapped-column      a column of a vector with a function at every column
+--   within-drawn       what is drawn is within the ceilings
+use mathlib.Core.Bool.{Bool, true, false, _&&_}
+use mathlib.Core.List.{List, [], _∷_, map}
+use mathlib.Core.Path.{_≡_, refl}
+use Prim.Native.Nat.{ℕ, zero, suc, _+_, _*_, _≤_, _<_}
+use native.Mathlib.Nat.{mul-le-mul-left, le-trans}
+use native.Mathlib.Omega.{arith}
+use lib.Dec.{leb}
+use lib.ListN.{length, getD}
+use borrow.Author.Tests.{leb-true, le-leb}
+use Rattle.interface.specs.Columns.{within}
+use Rattle.interface.specs.Draw.{part, remainder, drawn, rest}
+use Rattle.interface.specs.Laws.{ColumnSplits}
+use Rattle.interface.proofs.Laws.Columns.{both-true}
+
+pub part-le : (k x : ℕ) → k ≤ 1000 → part k x ≤ x
+part-le k x h = omega (arith, mul-le-mul-left x h)
+
+pub column-splits : ColumnSplits
+column-splits k h [] i = refl
+column-splits k h (x ∷ c) zero = omega (arith, part-le k x h)
+column-splits k h (x ∷ c) (suc i) = column-splits k h c i
+
+pub mapped-column : (f : ℕ → ℕ) (c : List ℕ) (i : ℕ) → i < length c → getD (map f c) i 0 ≡ f (getD c i 0)
+mapped-column f [] i h = absurd (omega arith)
+mapped-column f (x ∷ c) zero h = refl
+mapped-column f (x ∷ c) (suc i) h = mapped-column f c i (omega arith)
+
+pub within-drawn : (k : ℕ) → k ≤ 1000 → (cs v : List ℕ) → within cs v ≡ true → within cs (drawn k v) ≡ true
+unfolding within
+within-drawn k h cs [] e = refl
+within-drawn k h [] (x ∷ v) e = e
+within-drawn k h (c ∷ cs) (x ∷ v) e =
+    let p = both-true (leb x c) (within cs v) e in
+    rw (le-leb (part k x) c (le-trans (part-le k x h) (leb-true x c (p .0)))) (within-drawn k h cs v (p .1))

@@ -1,0 +1,133 @@
+-- Laws of the feed stages, and that an accepted feed keeps COD, TKN, oxygen and nitrate. Users of a stage go by these laws and not by its text. Assumes nothing.
+--
+--   stage1-..  ..  stage5-..      what each stage keeps
+--   feed-accepted                 what an accepted conversion is
+--   feed-keeps                    FeedLaw
+use mathlib.Core.Bool.{Bool, true, false, cond}
+use mathlib.Core.List.{List}
+use mathlib.Core.Path.{_≡_, refl}
+use Prim.Native.Nat.{ℕ, _+_, _-_, _*_, _/_, _≤_, min}
+use native.Mathlib.Omega.{arith}
+use lib.Dec.{ltb}
+use borrow.Author.Tests.{ltb-false}
+use Rattle.interface.specs.declared.figures.Figures.{Figures}
+use Rattle.interface.specs.declared.feed.Fed.{Fed}
+use Rattle.interface.specs.Columns.{Asm1, asm1}
+use Rattle.interface.specs.Feed.{NitrateRule, nitrateRule, warnOf, Stage1, Stage2, Stage4, Stage5, stage1, stage2, stage3, stage4, stage5, stages, feedRefused, feedTaken, feedOf}
+use Rattle.interface.specs.Laws.{FeedKeeps, FeedLaw}
+use Rattle.interface.proofs.Laws.Units.{afford, share-le}
+
+-- ---- stage 1
+
+pub warn-is : {w co cn co' cn' : ℕ} → w ≡ warnOf co cn → co ≡ co' → cn ≡ cn' → w ≡ warnOf co' cn'
+warn-is e p q = rw (← p, ← q) e
+
+-- d taken from a, then from b: what is left of each, and what neither covered
+drain : (d a b : ℕ) → (a - d) + (b - (d - a)) + d ≡ a + b + (d - a - b)
+drain d a b = omega arith
+
+-- the same from four, which hold d
+drain-four : (d a b c e : ℕ) → d ≤ a + b + c + e
+    → (a - d) + (b - (d - a)) + (c - (d - a - b)) + (e - (d - a - b - c)) + d ≡ a + b + c + e
+drain-four d a b c e h = join _ _ _ _ _ _ (drain d a b) (drain (d - a - b) c e) none
+  where
+    none : d - a - b - c - e ≡ 0
+    none = omega arith
+
+    join : (w x y z m n : ℕ) → w + x + d ≡ a + b + m → y + z + m ≡ c + e + n → n ≡ 0 → w + x + y + z + d ≡ a + b + c + e
+    join w x y z m n p q r = omega arith
+
+module _ (n : NitrateRule) (v : Asm1) where
+  pub stage1-oxygen : stage1 n v .co + stage1 n v .o ≡ v.so
+  unfolding stage1
+  stage1-oxygen = omega arith
+
+  pub stage1-nitrate : stage1 n v .cn + stage1 n v .r ≡ v.sno
+  unfolding stage1
+  stage1-nitrate = omega arith
+
+  pub stage1-cod : stage1 n v .D ≤ stage1 n v .A
+      → stage1 n v .ss + stage1 n v .xs + stage1 n v .xbh + stage1 n v .xba + stage1 n v .D ≡ v.ss + v.xs + v.xbh + v.xba
+  unfolding stage1
+  stage1-cod h = drain-four (stage1 n v .D) v.ss v.xs v.xbh v.xba h
+
+-- ---- stages 2 to 5
+
+module _ (f : Figures) (v : Asm1) (s1 : Stage1) where
+  pub stage2-cod : stage2 f v s1 .saa + stage2 f v s1 .ssu ≡ s1.ss
+  unfolding stage2
+  stage2-cod = omega arith
+
+  pub stage2-nitrogen : f.naa * stage2 f v s1 .saa ≤ v.snd
+  unfolding stage2
+  stage2-nitrogen = afford s1.ss v.snd f.naa .1
+
+module _ (f : Figures) (v : Asm1) (s2 : Stage2) where
+  pub stage3-nitrogen : f.naa * s2.saa ≤ v.snd
+      → stage3 f v s2 + f.naa * s2.saa ≡ v.snd + v.xnd + f.ixb * (v.xbh + v.xba) + f.ixe * (v.xi + v.xp)
+  unfolding stage3
+  stage3-nitrogen h = omega arith
+
+module _ (f : Figures) (v : Asm1) (P : ℕ) where
+  pub stage4-cod : f.fxi ≤ 10000 → stage4 f v P .xi ≤ v.xi + v.xp
+  unfolding stage4
+  stage4-cod h = share-le f.fxi 10000 (v.xi + v.xp) h
+
+  pub stage4-need : stage4 f v P .q ≡ f.ni * (v.si + stage4 f v P .xi)
+  unfolding stage4
+  stage4-need = refl
+
+  pub stage4-nitrogen : stage4 f v P .short ≡ false → stage4 f v P .H' + stage4 f v P .P' + stage4 f v P .q ≡ v.snh + P
+  unfolding stage4
+  stage4-nitrogen e = omega (arith, ltb-false (P + v.snh) (stage4 f v P .q) e)
+
+module _ (f : Figures) (v : Asm1) (s1 : Stage1) (s4 : Stage4) where
+  pub stage5-rest : s4.xi ≤ v.xi + v.xp → stage5 f v s1 s4 .R + s4.xi ≡ s1.xs + s1.xbh + s1.xba + v.xi + v.xp
+  unfolding stage5
+  stage5-rest h = omega arith
+
+  pub stage5-cod : stage5 f v s1 s4 .xc + stage5 f v s1 s4 .xch + stage5 f v s1 s4 .xli ≡ stage5 f v s1 s4 .R
+  unfolding stage5
+  stage5-cod =
+      let s = stage5 f v s1 s4 in
+      omega (arith, afford s.R s4.P' f.nxc .0, share-le f.fch (f.fch + f.fli) (s.R - s.xc) (omega arith))
+
+  pub stage5-nitrogen : stage5 f v s1 s4 .sin + f.nxc * stage5 f v s1 s4 .xc ≡ s4.H' + s4.P'
+  unfolding stage5
+  stage5-nitrogen = omega (arith, afford (stage5 f v s1 s4 .R) s4.P' f.nxc .1)
+
+-- ---- the whole conversion
+
+-- an accepted conversion has passed both tests
+pub record FeedAccepted (f : Figures) (c : List ℕ) : Type 0 where
+  pub covered : stages f (asm1 c) .s4 .short ≡ false
+  pub burns : stages f (asm1 c) .s1 .D ≤ stages f (asm1 c) .s1 .A
+  pub is : feedOf f c ≡ feedTaken (asm1 c) (stages f (asm1 c))
+
+passed : (a b : Bool) (x : Fed) → cond a (feedRefused 4) (cond b (feedRefused 6) x) .refusal ≡ 0
+    → (a ≡ false) × ((b ≡ false) × (cond a (feedRefused 4) (cond b (feedRefused 6) x) ≡ x))
+passed true b x e = absurd (omega arith)
+passed false true x e = absurd (omega arith)
+passed false false x e = (refl, (refl, refl))
+
+pub feed-accepted : (f : Figures) (c : List ℕ) → feedOf f c .refusal ≡ 0 → FeedAccepted f c
+unfolding feedOf
+feed-accepted f c e =
+    let s = stages f (asm1 c) in
+    let p = passed (s .s4 .short) (ltb (s .s1 .A) (s .s1 .D)) (feedTaken (asm1 c) s) e in
+    record { covered = p .0; burns = ltb-false (s .s1 .A) (s .s1 .D) (p .1 .0); is = p .1 .1 }
+
+pub feed-keeps : FeedLaw
+feed-keeps f h c e =
+    let a = feed-accepted f c e in
+    let v = asm1 c in
+    let s = stages f v in
+    let s2n = stage2-nitrogen f v (s .s1) in
+    let s4c = stage4-cod f v (s .P) (h .fxi-le) in
+    rw (a .is)
+    (record {
+      cod = omega (arith, stage1-cod nitrateRule v (a .burns), stage2-cod f v (s .s1), stage5-rest f v (s .s1) (s .s4) s4c, stage5-cod f v (s .s1) (s .s4));
+      tkn = omega (arith, stage3-nitrogen f v (s .s2) s2n, stage4-need f v (s .P), stage4-nitrogen f v (s .P) (a .covered), stage5-nitrogen f v (s .s1) (s .s4));
+      oxygen = omega (arith, stage1-oxygen nitrateRule v);
+      nitrate = omega (arith, stage1-nitrate nitrateRule v);
+    })

@@ -1,0 +1,48 @@
+-- Laws of the return, and that an accepted return keeps COD, TKN, oxygen and nitrate. Assumes nothing.
+--
+--   taken-nitrogen      what is left and what was taken are what there was, where there was enough
+--   return-accepted     what an accepted conversion is
+--   return-keeps        ReturnLaw
+use mathlib.Core.Bool.{Bool, true, false, cond}
+use mathlib.Core.List.{List}
+use mathlib.Core.Path.{_≡_, refl}
+use Prim.Native.Nat.{ℕ, _+_, _*_}
+use native.Mathlib.Omega.{arith}
+use borrow.Author.Tests.{ltb-false}
+use Rattle.interface.specs.declared.figures.Figures.{Figures}
+use Rattle.interface.specs.declared.returning.Returned.{Returned}
+use Rattle.interface.specs.Columns.{digester}
+use Rattle.interface.specs.Return.{Nitrogen, nitrogenOf, taken, returnShort, returnRefused, returnTaken, returnOf}
+use Rattle.interface.specs.Laws.{ReturnKeeps, ReturnLaw}
+
+pub taken-nitrogen : (q : ℕ) (n : Nitrogen) → returnShort q n ≡ false → taken q n .xnd + taken q n .snd + taken q n .snh + q ≡ n.xnd + n.snd + n.snh
+unfolding taken returnShort
+taken-nitrogen q n e = omega (arith, ltb-false (n.xnd + n.snd + n.snh) q e)
+
+-- an accepted conversion has passed its test
+pub record ReturnAccepted (f : Figures) (c : List ℕ) : Type 0 where
+  pub covered : returnShort (f.ixe * digester c .xi) (nitrogenOf f (digester c)) ≡ false
+  pub is : returnOf f c ≡ returnTaken f (digester c)
+
+passed : (a : Bool) (x : Returned) → cond a (returnRefused 5) x .refusal ≡ 0 → (a ≡ false) × (cond a (returnRefused 5) x ≡ x)
+passed true x e = absurd (omega arith)
+passed false x e = (refl, refl)
+
+pub return-accepted : (f : Figures) (c : List ℕ) → returnOf f c .refusal ≡ 0 → ReturnAccepted f c
+unfolding returnOf
+return-accepted f c e =
+    let d = digester c in
+    let p = passed (returnShort (f.ixe * d .xi) (nitrogenOf f d)) (returnTaken f d) e in
+    record { covered = p .0; is = p .1 }
+
+pub return-keeps : ReturnLaw
+return-keeps f c e =
+    let a = return-accepted f c e in
+    let d = digester c in
+    rw (a .is)
+    (record {
+      cod = omega arith;
+      tkn = omega (arith, taken-nitrogen (f.ixe * d .xi) (nitrogenOf f d) (a .covered));
+      oxygen = refl;
+      nitrate = refl;
+    })

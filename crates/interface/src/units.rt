@@ -1,0 +1,87 @@
+// One tuple struct for each unit of document 01, so that no function adds COD to nitrogen, and the sums that the conversions make
+// with them. `nitrogen` is the one place where COD becomes nitrogen.
+ghost use mathlib.Core.Path.{_≡_};
+ghost use Prim.Native.Nat.{_+_, _-_, _*_, _/_, _≤_, min};
+
+// Milligrams of COD or of oxygen.
+pub struct Milligrams(pub u64);
+
+// Ticks of nitrogen or of nitrate: 0.0001 mg N.
+pub struct Ticks(pub u64);
+
+// Millimoles of alkalinity or of inorganic carbon.
+pub struct Millimoles(pub u64);
+
+impl Milligrams {
+    // What is left when other is taken from it, or nothing.
+    pub fn less(self, other: Milligrams) -> Milligrams
+        ensures { λ r. ⌜ (r .0 ≡ self .0 - other .0) × (r .0 ≤ self .0) ⌝ }
+    {
+        Milligrams(difference(self.0, other.0))
+    }
+
+    // The smaller of the two.
+    pub fn least(self, other: Milligrams) -> Milligrams
+        ensures { λ r. ⌜ (r .0 ≡ min (self .0) (other .0)) × ((r .0 ≤ self .0) × (r .0 ≤ other .0)) ⌝ }
+    {
+        Milligrams(smaller(self.0, other.0))
+    }
+}
+
+impl Ticks {
+    // What is left when other is taken from it, or nothing.
+    pub fn less(self, other: Ticks) -> Ticks
+        ensures { λ r. ⌜ (r .0 ≡ self .0 - other .0) × (r .0 ≤ self .0) ⌝ }
+    {
+        Ticks(difference(self.0, other.0))
+    }
+
+    // The smaller of the two.
+    pub fn least(self, other: Ticks) -> Ticks
+        ensures { λ r. ⌜ (r .0 ≡ min (self .0) (other .0)) × ((r .0 ≤ self .0) × (r .0 ≤ other .0)) ⌝ }
+    {
+        Ticks(smaller(self.0, other.0))
+    }
+}
+
+// The nitrogen of COD, at a figure in ticks per milligram.
+pub fn nitrogen(figure: u64, x: Milligrams) -> Ticks
+    requires { ⌜ (figure ≤ 10000) × (x .0 ≤ 100000000000000) ⌝ }
+    ensures { λ r. ⌜ (r .0 ≡ figure * x .0) × (r .0 ≤ 10000 * x .0) ⌝ }
+{
+    Ticks(figure * x.0)
+}
+
+// As much of x as m has nitrogen for, at a figure in ticks per milligram.
+pub fn afforded(x: Milligrams, m: Ticks, figure: u64) -> Milligrams
+    requires { ⌜ 1 ≤ figure ⌝ }
+    ensures { λ r. ⌜ (r .0 ≡ min (x .0) (m .0 / figure)) × ((r .0 ≤ x .0) × (figure * r .0 ≤ m .0)) ⌝ }
+{
+    Milligrams(smaller(x.0, m.0 / figure))
+}
+
+// The share of x that is a parts of b.
+pub fn share(x: Milligrams, a: u64, b: u64) -> Milligrams
+    requires { ⌜ ((1 ≤ b) × (a ≤ b)) × ((a ≤ 10000) × (x .0 ≤ 100000000000000)) ⌝ }
+    ensures { λ r. ⌜ (r .0 ≡ a * x .0 / b) × (r .0 ≤ x .0) ⌝ }
+{
+    Milligrams(a * x.0 / b)
+}
+
+fn smaller(a: u64, b: u64) -> u64
+    ensures { λ r. ⌜ r ≡ min a b ⌝ }
+{
+    if a < b {
+        return a;
+    }
+    b
+}
+
+fn difference(a: u64, b: u64) -> u64
+    ensures { λ r. ⌜ (r ≡ a - b) × (r ≤ a) ⌝ }
+{
+    if a < b {
+        return 0;
+    }
+    a - b
+}
