@@ -4,7 +4,7 @@
 --   ceil                       a quotient rounded up
 --   stage1 .. stage5           the stages, each with its symbols of document 01: A o r D, P, q P' H', R
 --   fedVector                  the digester vector that the stages give
---   feedOf                     the whole conversion: refusal 4, refusal 6, or the vector and the numbers told
+--   feedAsm1, feedOf           the whole conversion: refusal 4, refusal 6, or the vector and the numbers told
 --
 -- Where document 01 parts from 004:
 --   counts are whole, and each definition says where a leftover goes;
@@ -191,10 +191,13 @@ feedTaken v s =
     }
 
 -- 4 where q > P + snh, else 6 where D > A, else the conversion
-unfoldable pub feedOf : Figures → List ℕ → Fed
-feedOf f c =
-    let v = asm1 c in
+unfoldable pub feedAsm1 : Figures → Asm1 → Fed
+feedAsm1 f v =
     let s = stages f v in
     cond (s .s4 .short) (feedRefused 4)
     (cond (ltb (s .s1 .A) (s .s1 .D)) (feedRefused 6)
     (feedTaken v s))
+
+-- the same of an array's columns
+abbrev pub feedOf : Figures → List ℕ → Fed
+feedOf f c = feedAsm1 f (asm1 c)

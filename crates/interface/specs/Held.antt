@@ -4,13 +4,15 @@
 --   Demands, Leaves, AcidsHeld, InertsHeld, RemainsHeld     the struct has the numbers of its stage
 use mathlib.Core.Path.{_≡_}
 use Prim.Native.Nat.{ℕ, _≤_}
-use Rattle.interface.specs.Columns.{codCeiling, asm1Ceilings, asm1Columns, Below}
+use Rattle.interface.specs.Columns.{codCeiling, tickCeiling, asm1Ceilings, asm1Columns, Below}
 use Rattle.interface.specs.Units.{asm1Counts}
-use Rattle.interface.specs.Feed.{Stage1, Stage2, Stage4, Stage5}
+use Rattle.interface.specs.Feed.{Stage1, Stage2, Stage4, Stage5, Stages}
 use Rattle.interface.specs.declared.columns.Asm1.{Asm1}
 use Rattle.interface.specs.declared.feed.Demand.{Demand}
 use Rattle.interface.specs.declared.feed.Left.{Left}
 use Rattle.interface.specs.declared.feed.Acids.{Acids}
+use Rattle.interface.specs.declared.feed.Inerts.{Inerts}
+use Rattle.interface.specs.declared.feed.Remains.{Remains}
 
 abbrev pub Low : Asm1 → Type 0
 Low v = Below asm1Ceilings (asm1Columns (asm1Counts v))
@@ -39,3 +41,26 @@ pub record AcidsHeld (a : Acids) (s : Stage2) : Type 0 where
   pub saa : a .saa .0 ≡ s.saa
   pub ssu : a .ssu .0 ≡ s.ssu
   pub saa-le : a .saa .0 ≤ codCeiling
+
+-- m is the particulate inert COD of the drawn vector
+pub record InertsHeld (i : Inerts) (s : Stage4) (m : ℕ) : Type 0 where
+  pub xi : i .xi .0 ≡ s.xi
+  pub P' : i .pool .0 ≡ s.P'
+  pub H' : i .ammonia .0 ≡ s.H'
+  pub short : i .short ≡ s.short
+  pub xi-le : i .xi .0 ≤ m
+  pub P'-le : i .pool .0 ≤ 60_000_000_000_000_000
+  pub H'-le : i .ammonia .0 ≤ tickCeiling
+
+pub record RemainsHeld (r : Remains) (s : Stage5) : Type 0 where
+  pub xc : r .xc .0 ≡ s.xc
+  pub xch : r .xch .0 ≡ s.xch
+  pub xli : r .xli .0 ≡ s.xli
+  pub sin : r .sin .0 ≡ s.sin
+
+-- what the digester vector is made of, by the stages of one vector
+pub record StagesHeld (l : Left) (a : Acids) (i : Inerts) (r : Remains) (m : ℕ) (s : Stages) : Type 0 where
+  pub left : Leaves l s.s1
+  pub acids : AcidsHeld a s.s2
+  pub inerts : InertsHeld i s.s4 m
+  pub remains : RemainsHeld r s.s5

@@ -5,7 +5,7 @@
 --   nitrogenOf             document 01's start: xnd, snd and snh by the digester's columns
 --   taken                  nitrogen taken from xnd, then snd, then snh
 --   returnedVector         the ASM1 vector
---   returnOf               the whole conversion: refusal 5, or the vector and the COD stripped
+--   returnDigester, returnOf   the whole conversion: refusal 5, or the vector and the COD stripped
 --
 -- Where document 01 parts from 004: ixe × xi is taken from xnd, then snd, then snh, and a shortage refuses the return, where 004 lets xnd go below zero.
 use mathlib.Core.Bool.{Bool, cond}
@@ -87,7 +87,9 @@ returnTaken f d =
     }
 
 -- 5 where xnd, snd and snh together hold less than ixe × xi, else the conversion
-unfoldable pub returnOf : Figures → List ℕ → Returned
-returnOf f c =
-    let d = digester c in
-    cond (returnShort (f.ixe * d.xi) (nitrogenOf f d)) (returnRefused 5) (returnTaken f d)
+unfoldable pub returnDigester : Figures → Digester → Returned
+returnDigester f d = cond (returnShort (f.ixe * d.xi) (nitrogenOf f d)) (returnRefused 5) (returnTaken f d)
+
+-- the same of an array's columns
+abbrev pub returnOf : Figures → List ℕ → Returned
+returnOf f c = returnDigester f (digester c)

@@ -4,9 +4,9 @@ ghost use mathlib.Core.Path.{_≡_};
 ghost use Prim.Native.Nat.{_+_, _-_, _*_, _/_, _≤_};
 ghost use Rattle.interface.specs.Columns.{Below, asm1Ceilings, asm1Columns};
 ghost use Rattle.interface.specs.Figures.{Permitted};
-ghost use Rattle.interface.specs.Units.{asm1Counts};
-ghost use Rattle.interface.specs.Feed.{nitrateRule, ceil, warnOf, stage1, stage2, stage3, stage4, stage5, stages, fedVector, feedRefused, feedOf};
-ghost use Rattle.interface.specs.Held.{Low, Demands, Leaves, AcidsHeld};
+ghost use Rattle.interface.specs.Units.{asm1Counts, digesterCounts};
+ghost use Rattle.interface.specs.Feed.{nitrateRule, ceil, warnOf, stage1, stage2, stage3, stage4, stage5, stages, fedVector, feedRefused, feedTaken, feedAsm1, feedOf};
+ghost use Rattle.interface.specs.Held.{Low, Demands, Leaves, AcidsHeld, InertsHeld, RemainsHeld, StagesHeld};
 use crate::columns::asm1_of;
 use crate::columns::digester_array;
 use crate::columns::Asm1;
@@ -26,6 +26,67 @@ pub struct Fed {
     pub nitrate: Ticks,
     pub warn: u64,
     pub vector: [u64; 26],
+}
+
+// The feed conversion.
+pub fn feed_of(f: Figures, c: [u64; 13]) -> Fed
+    requires { ⌜ (Permitted f) × (Below asm1Ceilings c) ⌝ }
+    ensures { λ r. ⌜ r ≡ feedOf f c ⌝ }
+{
+    feed_asm1(f, asm1_of(c))
+}
+
+// The same of a vector by its names: 4 where q > P + snh, else 6 where D > A, else the five stages.
+fn feed_asm1(f: Figures, v: Asm1) -> Fed
+    requires { ⌜ (Permitted f) × (Low v) ⌝ }
+    ensures { λ r. ⌜ r ≡ feedAsm1 f (asm1Counts v) ⌝ }
+{
+    let demand = demand_of(v);
+    let left = left_of(v, demand);
+    let acids = acids_of(f, v, left);
+    let pool = pool_of(f, v, acids);
+    let inerts = inerts_of(f, v, pool);
+    if inerts.short {
+        return feed_refused(4);
+    }
+    if demand.a.0 < demand.d.0 {
+        return feed_refused(6);
+    }
+    let remains = remains_of(f, v, left, inerts);
+    feed_taken(f, v, demand, left, acids, inerts, remains)
+}
+
+// A refusal, which tells zeros.
+fn feed_refused(n: u64) -> Fed
+    ensures { λ r. ⌜ r ≡ feedRefused n ⌝ }
+{
+    Fed {
+        refusal: n,
+        burnt: Milligrams(0),
+        oxygen: Milligrams(0),
+        nitrate: Ticks(0),
+        warn: 0,
+        vector: [0; 26],
+    }
+}
+
+// What an accepted conversion tells, with its vector.
+fn feed_taken(f: Figures, v: Asm1, demand: Demand, left: Left, acids: Acids, inerts: Inerts, remains: Remains) -> Fed
+    requires { ⌜ (Demands demand (stage1 nitrateRule (asm1Counts v))) × (StagesHeld left acids inerts remains (v .xi .0 + v .xp .0) (stages f (asm1Counts v))) ⌝ }
+    ensures { λ r. ⌜ r ≡ feedTaken (asm1Counts v) (stages f (asm1Counts v)) ⌝ }
+{
+    let d = fed_vector(f, v, left, acids, inerts, remains);
+    let burnt = demand.d;
+    let oxygen = demand.o;
+    let nitrate = demand.r;
+    Fed {
+        refusal: 0,
+        burnt: burnt,
+        oxygen: oxygen,
+        nitrate: nitrate,
+        warn: left.warn,
+        vector: digester_array(d),
+    }
 }
 
 // The nitrate rule: 286 mg of COD reduce 1,000,000 ticks of nitrate.
@@ -126,5 +187,110 @@ fn acids_of(f: Figures, v: Asm1, left: Left) -> Acids
     Acids {
         saa: saa,
         ssu: left.ss.less(saa),
+    }
+}
+
+// Stage 3, the pool of organic nitrogen. Biomass counts as it was before stage 1.
+fn pool_of(f: Figures, v: Asm1, acids: Acids) -> Ticks
+    requires { ⌜ (Permitted f) × ((Low v) × (AcidsHeld acids (stages f (asm1Counts v) .s2))) ⌝ }
+    ensures { λ r. ⌜ (r .0 ≡ stages f (asm1Counts v) .P) × (r .0 ≤ 60000000000000000) ⌝ }
+{
+    let soluble = v.snd.less(nitrogen(f.naa, acids.saa));
+    let biomass = nitrogen(f.ixb, Milligrams(v.xbh.0 + v.xba.0));
+    let inert = nitrogen(f.ixe, Milligrams(v.xi.0 + v.xp.0));
+    Ticks(soluble.0 + v.xnd.0 + biomass.0 + inert.0)
+}
+
+// What stage 4 gives: the digester's xi, the pool and the ammonia left, and whether nitrogen is short.
+pub struct Inerts {
+    pub xi: Milligrams,
+    pub pool: Ticks,
+    pub ammonia: Ticks,
+    pub short: bool,
+}
+
+// Stage 4.
+fn inerts_of(f: Figures, v: Asm1, pool: Ticks) -> Inerts
+    requires { ⌜ (Permitted f) × ((Low v) × ((pool .0 ≡ stages f (asm1Counts v) .P) × (pool .0 ≤ 60000000000000000))) ⌝ }
+    ensures { λ r. ⌜ InertsHeld r (stages f (asm1Counts v) .s4) (v .xi .0 + v .xp .0) ⌝ }
+{
+    let xi = share(Milligrams(v.xi.0 + v.xp.0), f.fxi, 10000);
+    let q = nitrogen(f.ni, Milligrams(v.si.0 + xi.0));
+    Inerts {
+        xi: xi,
+        pool: pool.less(q),
+        ammonia: v.snh.less(q.less(pool)),
+        short: pool.0 + v.snh.0 < q.0,
+    }
+}
+
+// What stage 5 gives.
+pub struct Remains {
+    pub xc: Milligrams,
+    pub xch: Milligrams,
+    pub xli: Milligrams,
+    pub sin: Ticks,
+}
+
+// Stage 5.
+fn remains_of(f: Figures, v: Asm1, left: Left, inerts: Inerts) -> Remains
+    requires { ⌜ ((Permitted f) × (Low v)) × ((Leaves left (stage1 nitrateRule (asm1Counts v))) × (InertsHeld inerts (stages f (asm1Counts v) .s4) (v .xi .0 + v .xp .0))) ⌝ }
+    ensures { λ r. ⌜ RemainsHeld r (stages f (asm1Counts v) .s5) ⌝ }
+{
+    let all = Milligrams(left.xs.0 + left.xbh.0 + left.xba.0 + v.xi.0 + v.xp.0 - inerts.xi.0);
+    let xc = afforded(all, inerts.pool, f.nxc);
+    let rest = all.less(xc);
+    let xch = share(rest, f.fch, f.fch + f.fli);
+    Remains {
+        xc: xc,
+        xch: xch,
+        xli: rest.less(xch),
+        sin: Ticks(inerts.ammonia.0 + inerts.pool.0).less(nitrogen(f.nxc, xc)),
+    }
+}
+
+// The digester vector that the stages give. All columns that no stage names are zero.
+fn fed_vector(f: Figures, v: Asm1, left: Left, acids: Acids, inerts: Inerts, remains: Remains) -> Digester
+    requires { ⌜ StagesHeld left acids inerts remains (v .xi .0 + v .xp .0) (stages f (asm1Counts v)) ⌝ }
+    ensures { λ r. ⌜ digesterCounts r ≡ fedVector (asm1Counts v) (stages f (asm1Counts v)) ⌝ }
+{
+    let si = v.si;
+    let ssu = acids.ssu;
+    let saa = acids.saa;
+    let xi = inerts.xi;
+    let xc = remains.xc;
+    let xch = remains.xch;
+    let xli = remains.xli;
+    let sin = remains.sin;
+    let sic = v.salk;
+    let co = left.co;
+    let cn = left.cn;
+    Digester {
+        si: si,
+        ssu: ssu,
+        saa: saa,
+        sfa: Milligrams(0),
+        sva: Milligrams(0),
+        sbu: Milligrams(0),
+        spro: Milligrams(0),
+        sac: Milligrams(0),
+        sh2: Milligrams(0),
+        sch4: Milligrams(0),
+        xi: xi,
+        xc: xc,
+        xch: xch,
+        xpr: Milligrams(0),
+        xli: xli,
+        xsu: Milligrams(0),
+        xaa: Milligrams(0),
+        xfa: Milligrams(0),
+        xc4: Milligrams(0),
+        xpro: Milligrams(0),
+        xac: Milligrams(0),
+        xh2: Milligrams(0),
+        sin: sin,
+        sic: sic,
+        co: co,
+        cn: cn,
     }
 }

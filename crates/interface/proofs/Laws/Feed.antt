@@ -1,19 +1,24 @@
 -- Laws of the feed stages, and that an accepted feed keeps COD, TKN, oxygen and nitrate. Users of a stage go by these laws and not by its text. Assumes nothing.
 --
 --   stage1-..  ..  stage5-..      what each stage keeps
+--   low-is                        a vector read from an array is as low as the array
+--   feed-short, ..                the three outcomes of the conversion
 --   feed-accepted                 what an accepted conversion is
 --   feed-keeps                    FeedLaw
 use mathlib.Core.Bool.{Bool, true, false, cond}
 use mathlib.Core.List.{List}
-use mathlib.Core.Path.{_≡_, refl}
+use mathlib.Core.Path.{_≡_, refl, sym, ap, subst, _∙_}
 use Prim.Native.Nat.{ℕ, _+_, _-_, _*_, _/_, _≤_, min}
 use native.Mathlib.Omega.{arith}
 use lib.Dec.{ltb}
 use borrow.Author.Tests.{ltb-false}
 use Rattle.interface.specs.declared.figures.Figures.{Figures}
 use Rattle.interface.specs.declared.feed.Fed.{Fed}
-use Rattle.interface.specs.Columns.{Asm1, asm1}
-use Rattle.interface.specs.Feed.{NitrateRule, nitrateRule, warnOf, Stage1, Stage2, Stage4, Stage5, stage1, stage2, stage3, stage4, stage5, stages, feedRefused, feedTaken, feedOf}
+use Rattle.interface.specs.declared.columns.Asm1 as inAsm1
+use Rattle.interface.specs.Columns.{Asm1, asm1, asm1Columns, asm1Ceilings, Below}
+use Rattle.interface.specs.Units.{asm1Counts}
+use Rattle.interface.specs.Held.{Low}
+use Rattle.interface.specs.Feed.{NitrateRule, nitrateRule, warnOf, Stage1, Stage2, Stage4, Stage5, stage1, stage2, stage3, stage4, stage5, stages, feedRefused, feedTaken, feedAsm1, feedOf}
 use Rattle.interface.specs.Laws.{FeedKeeps, FeedLaw}
 use Rattle.interface.proofs.Laws.Units.{afford, share-le}
 
@@ -98,6 +103,9 @@ module _ (f : Figures) (v : Asm1) (s1 : Stage1) (s4 : Stage4) where
 
 -- ---- the whole conversion
 
+pub low-is : {v : inAsm1.Asm1} (c : List ℕ) → asm1Counts v ≡ asm1 c → Below asm1Ceilings c → Low v
+low-is c e b = subst (λ w. Below asm1Ceilings (asm1Columns w)) (sym e) b
+
 -- an accepted conversion has passed both tests
 pub record FeedAccepted (f : Figures) (c : List ℕ) : Type 0 where
   pub covered : stages f (asm1 c) .s4 .short ≡ false
@@ -111,11 +119,29 @@ passed false true x e = absurd (omega arith)
 passed false false x e = (refl, (refl, refl))
 
 pub feed-accepted : (f : Figures) (c : List ℕ) → feedOf f c .refusal ≡ 0 → FeedAccepted f c
-unfolding feedOf
+unfolding feedAsm1
 feed-accepted f c e =
     let s = stages f (asm1 c) in
     let p = passed (s .s4 .short) (ltb (s .s1 .A) (s .s1 .D)) (feedTaken (asm1 c) s) e in
     record { covered = p .0; burns = ltb-false (s .s1 .A) (s .s1 .D) (p .1 .0); is = p .1 .1 }
+
+-- a test on numbers that are those of the definition
+pub same-test : {a b a' b' : ℕ} → a ≡ a' → b ≡ b' → ltb a b ≡ ltb a' b'
+same-test p q = rw (p, q)
+
+-- the three outcomes
+module _ (f : Figures) (v : Asm1) where
+  pub feed-short : stages f v .s4 .short ≡ true → feedRefused 4 ≡ feedAsm1 f v
+  unfolding feedAsm1
+  feed-short t = rw t
+
+  pub feed-over : stages f v .s4 .short ≡ false → ltb (stages f v .s1 .A) (stages f v .s1 .D) ≡ true → feedRefused 6 ≡ feedAsm1 f v
+  unfolding feedAsm1
+  feed-over t u = rw (t, u)
+
+  pub feed-taken : stages f v .s4 .short ≡ false → ltb (stages f v .s1 .A) (stages f v .s1 .D) ≡ false → feedTaken v (stages f v) ≡ feedAsm1 f v
+  unfolding feedAsm1
+  feed-taken t u = rw (t, u)
 
 pub feed-keeps : FeedLaw
 feed-keeps f h c e =

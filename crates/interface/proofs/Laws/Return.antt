@@ -12,7 +12,7 @@ use borrow.Author.Tests.{ltb-false}
 use Rattle.interface.specs.declared.figures.Figures.{Figures}
 use Rattle.interface.specs.declared.returning.Returned.{Returned}
 use Rattle.interface.specs.Columns.{digester}
-use Rattle.interface.specs.Return.{Nitrogen, nitrogenOf, taken, returnShort, returnRefused, returnTaken, returnOf}
+use Rattle.interface.specs.Return.{Nitrogen, nitrogenOf, taken, returnShort, returnRefused, returnTaken, returnDigester, returnOf}
 use Rattle.interface.specs.Laws.{ReturnKeeps, ReturnLaw}
 
 pub taken-nitrogen : (q : ℕ) (n : Nitrogen) → returnShort q n ≡ false → taken q n .xnd + taken q n .snd + taken q n .snh + q ≡ n.xnd + n.snd + n.snh
@@ -29,7 +29,7 @@ passed true x e = absurd (omega arith)
 passed false x e = (refl, refl)
 
 pub return-accepted : (f : Figures) (c : List ℕ) → returnOf f c .refusal ≡ 0 → ReturnAccepted f c
-unfolding returnOf
+unfolding returnDigester
 return-accepted f c e =
     let d = digester c in
     let p = passed (returnShort (f.ixe * d .xi) (nitrogenOf f d)) (returnTaken f d) e in

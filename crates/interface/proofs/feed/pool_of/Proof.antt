@@ -1,0 +1,69 @@
+use native.Mathlib.Omega.{arith}
+use Rattle.interface.specs.Feed.{stage3}
+use borrow.Author.Needs.{needs}
+use Rattle.interface.proofs.feed.pool_of.Statement.{statement}
+use Rattle.interface.proofs.feed.pool_of.Tie as tie
+use Rattle.interface.proofs.feed.pool_of.Reads as reads
+use Rattle.interface.proofs.feed.pool_of.Lts as lts
+use Rattle.interface.proofs.units.Ticks.less.Reads as less-reads
+use Rattle.interface.proofs.units.nitrogen.Reads as nitrogen-reads
+
+-- src/feed.rt:137:30
+nitrogen-requires : tie.Need-nitrogen-requires
+nitrogen-requires c κs = search needs
+
+-- src/feed.rt:137:9
+less-requires : tie.Need-less-requires
+less-requires c κs = search needs
+
+-- src/feed.rt:138:46
+add-t8 : tie.Need-add-t8
+add-t8 c = omega (arith, c .before .before .before .pre .1 .0, c .before .before .before .pre .0)
+
+-- src/feed.rt:138:9
+nitrogen-requires-2 : tie.Need-nitrogen-requires-2
+nitrogen-requires-2 c κs = omega (arith, c .before .before .before .pre .1 .0, c .before .before .before .pre .0)
+
+-- src/feed.rt:139:44
+add-t8-2 : tie.Need-add-t8-2
+add-t8-2 c = omega (arith, c .before .before .before .before .before .pre .1 .0, c .before .before .before .before .before .pre .0)
+
+-- src/feed.rt:139:9
+nitrogen-requires-3 : tie.Need-nitrogen-requires-3
+nitrogen-requires-3 c κs = omega (arith, c .before .before .before .before .before .pre .1 .0, c .before .before .before .before .before .pre .0)
+
+-- src/feed.rt:140:11
+add-t8-3 : tie.Need-add-t8-3
+add-t8-3 c = omega (arith, c .before .before .before .before .before .before .before .before .pre .1 .0, c .before .before .before .before .before .before .before .before .pre .0, c .before .before .before .before .before .before .less .ensures .1)
+
+-- src/feed.rt:140:11
+add-t10 : tie.Need-add-t10
+add-t10 c = omega (arith, c .before .before .before .before .before .before .before .before .before .pre .1 .0, c .before .before .before .before .before .before .before .before .before .pre .0, c .before .before .before .before .before .before .before .less .ensures .1, c .before .before .before .before .before .nitrogen2 .ensures .1)
+
+-- src/feed.rt:140:11
+add-t11 : tie.Need-add-t11
+add-t11 c = omega (arith, c .before .before .before .before .before .before .before .before .before .before .pre .1 .0, c .before .before .before .before .before .before .before .before .before .before .pre .0, c .before .before .before .before .before .before .before .before .less .ensures .1, c .before .before .before .before .before .before .nitrogen2 .ensures .1, c .before .before .before .before .nitrogen3 .ensures .1)
+
+-- src/feed.rt:133:1
+returns : tie.Need-returns
+unfolding stage3
+returns c =
+    let low = c .before .before .before .before .before .before .before .before .before .before .pre .1 .0 in
+    let held = c .before .before .before .before .before .before .before .before .before .before .pre .1 .1 in
+    (cc (held .saa, c .before .before .before .before .before .before .before .before .before .nitrogen .ensures .0, c .before .before .before .before .before .before .before .before .less .ensures .0, c .before .before .before .before .before .before .nitrogen2 .ensures .0, c .before .before .before .before .nitrogen3 .ensures .0),
+    omega (arith, c .before .before .before .before .before .before .before .before .less .ensures .1, c .before .before .before .before .before .before .nitrogen2 .ensures .1, c .before .before .before .before .nitrogen3 .ensures .1))
+
+pub pool-of-spec : {M : Type 1} → statement M
+pool-of-spec =
+    tie.close
+    (tie.spec
+    nitrogen-requires
+    less-requires
+    add-t8
+    nitrogen-requires-2
+    add-t8-2
+    nitrogen-requires-3
+    add-t8-3
+    add-t10
+    add-t11
+    returns)

@@ -1,0 +1,98 @@
+use native.Mathlib.Omega.{arith}
+use Rattle.interface.specs.Feed.{stage5}
+use borrow.Author.Needs.{needs}
+use Rattle.interface.proofs.feed.remains_of.Statement.{statement}
+use Rattle.interface.proofs.feed.remains_of.Tie as tie
+use Rattle.interface.proofs.feed.remains_of.Reads as reads
+use Rattle.interface.proofs.feed.remains_of.Lts as lts
+use Rattle.interface.proofs.units.Milligrams.less.Reads as units-Milligrams-less-reads
+use Rattle.interface.proofs.units.Ticks.less.Reads as units-Ticks-less-reads
+use Rattle.interface.proofs.units.afforded.Reads as afforded-reads
+use Rattle.interface.proofs.units.nitrogen.Reads as nitrogen-reads
+use Rattle.interface.proofs.units.share.Reads as share-reads
+
+-- src/feed.rt:179:26
+add-t9 : tie.Need-add-t9
+add-t9 c = search needs
+
+-- src/feed.rt:179:26
+add-t10 : tie.Need-add-t10
+add-t10 c = search needs
+
+-- src/feed.rt:179:26
+add-t11 : tie.Need-add-t11
+add-t11 c = search needs
+
+-- src/feed.rt:179:26
+add-t12 : tie.Need-add-t12
+add-t12 c = omega (arith, c .before .before .before .before .pre)
+
+-- src/feed.rt:179:26
+sub-t13 : tie.Need-sub-t13
+sub-t13 c = search needs
+
+-- src/feed.rt:180:9
+afforded-requires : tie.Need-afforded-requires
+afforded-requires c κs = search needs
+
+-- src/feed.rt:181:9
+less-requires : tie.Need-less-requires
+less-requires c κs = search needs
+
+-- src/feed.rt:182:34
+add-share : tie.Need-add-share
+add-share c = omega (arith, c .before .before .before .before .before .before .before .before .pre)
+
+-- src/feed.rt:182:9
+share-requires : tie.Need-share-requires
+share-requires c κs = omega (arith, c .before .before .before .before .before .before .before .before .pre, c .before .less .ensures .1)
+
+-- src/feed.rt:186:14
+less-requires-2 : tie.Need-less-requires-2
+less-requires-2 c κs = search needs
+
+-- src/feed.rt:187:20
+add-t13 : tie.Need-add-t13
+add-t13 c = omega (arith, c .before .before .before .before .before .before .before .before .before .before .before .pre)
+
+-- src/feed.rt:187:59
+nitrogen-requires : tie.Need-nitrogen-requires
+nitrogen-requires c κs = omega (arith, c .before .before .before .before .before .before .before .before .before .before .before .pre, c .before .before .before .before .before .afforded .ensures .1 .0)
+
+-- src/feed.rt:187:14
+less-requires-3 : tie.Need-less-requires-3
+less-requires-3 c κs = search needs
+
+-- src/feed.rt:175:1
+returns : tie.Need-returns
+unfolding stage5
+returns c =
+    let left = c .before .before .before .before .before .before .before .before .before .before .before .before .before .pre .1 .0 in
+    let inerts = c .before .before .before .before .before .before .before .before .before .before .before .before .before .pre .1 .1 in
+    let xc = c .before .before .before .before .before .before .before .afforded .ensures .0 in
+    let xch = c .before .before .before .before .share .ensures .0 in
+    record {
+      xc = cc (left .xs, left .xbh, left .xba, inerts .xi, inerts .P', xc);
+      xch = cc (left .xs, left .xbh, left .xba, inerts .xi, inerts .P', xc, c .before .before .before .before .before .before .less .ensures .0, xch);
+      xli = cc (left .xs, left .xbh, left .xba, inerts .xi, inerts .P', xc, c .before .before .before .before .before .before .less .ensures .0, xch, c .before .before .before .less2 .ensures .0);
+      sin = cc (left .xs, left .xbh, left .xba, inerts .xi, inerts .P', inerts .H', xc, c .before .nitrogen .ensures .0, c .less3 .ensures .0)
+    }
+
+pub remains-of-spec : {M : Type 1} → statement M
+remains-of-spec =
+    tie.close
+    (tie.spec
+    add-t9
+    add-t10
+    add-t11
+    add-t12
+    sub-t13
+    afforded-requires
+    less-requires
+    add-share
+    share-requires
+    less-requires-2
+    add-t13
+    nitrogen-requires
+    less-requires-3
+    returns)
