@@ -1,13 +1,17 @@
 -- What the structs between the stages hold in the code: the numbers of the stages, each in its unit. The contracts of the stage functions cite these.
 --
---   Low                                                     every column of the vector is at most its ceiling
+--   Low, LowDigester                                        every column of the vector is at most its ceiling
 --   Demands, Leaves, AcidsHeld, InertsHeld, RemainsHeld     the struct has the numbers of its stage
+--   nitrogenCounts                                          the numbers of the return's nitrogen
 use mathlib.Core.Path.{_≡_}
 use Prim.Native.Nat.{ℕ, _≤_}
-use Rattle.interface.specs.Columns.{codCeiling, tickCeiling, asm1Ceilings, asm1Columns, Below}
-use Rattle.interface.specs.Units.{asm1Counts}
+use Rattle.interface.specs.Columns.{codCeiling, tickCeiling, asm1Ceilings, asm1Columns, digesterCeilings, digesterColumns, Below}
+use Rattle.interface.specs.Units.{asm1Counts, digesterCounts}
 use Rattle.interface.specs.Feed.{Stage1, Stage2, Stage4, Stage5, Stages}
+use Rattle.interface.specs.Return.{Nitrogen}
 use Rattle.interface.specs.declared.columns.Asm1.{Asm1}
+use Rattle.interface.specs.declared.columns.Digester.{Digester}
+use Rattle.interface.specs.declared.returning.Nitrogen as inReturn
 use Rattle.interface.specs.declared.feed.Demand.{Demand}
 use Rattle.interface.specs.declared.feed.Left.{Left}
 use Rattle.interface.specs.declared.feed.Acids.{Acids}
@@ -16,6 +20,11 @@ use Rattle.interface.specs.declared.feed.Remains.{Remains}
 
 abbrev pub Low : Asm1 → Type 0
 Low v = Below asm1Ceilings (asm1Columns (asm1Counts v))
+
+abbrev pub LowDigester : Digester → Type 0
+LowDigester d = Below digesterCeilings (digesterColumns (digesterCounts d))
+
+-- ---- feed
 
 pub record Demands (d : Demand) (s : Stage1) : Type 0 where
   pub A : d .a .0 ≡ s.A
@@ -64,3 +73,8 @@ pub record StagesHeld (l : Left) (a : Acids) (i : Inerts) (r : Remains) (m : ℕ
   pub acids : AcidsHeld a s.s2
   pub inerts : InertsHeld i s.s4 m
   pub remains : RemainsHeld r s.s5
+
+-- ---- return
+
+abbrev pub nitrogenCounts : inReturn.Nitrogen → Nitrogen
+nitrogenCounts n = record { xnd = n .xnd .0; snd = n .snd .0; snh = n .snh .0 }

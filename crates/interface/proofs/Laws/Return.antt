@@ -1,23 +1,41 @@
 -- Laws of the return, and that an accepted return keeps COD, TKN, oxygen and nitrate. Assumes nothing.
 --
 --   taken-nitrogen      what is left and what was taken are what there was, where there was enough
+--   low-is              a vector read from an array is as low as the array
+--   return-short, ..    the two outcomes of the conversion
 --   return-accepted     what an accepted conversion is
 --   return-keeps        ReturnLaw
 use mathlib.Core.Bool.{Bool, true, false, cond}
 use mathlib.Core.List.{List}
-use mathlib.Core.Path.{_≡_, refl}
+use mathlib.Core.Path.{_≡_, refl, sym, subst}
 use Prim.Native.Nat.{ℕ, _+_, _*_}
 use native.Mathlib.Omega.{arith}
 use borrow.Author.Tests.{ltb-false}
 use Rattle.interface.specs.declared.figures.Figures.{Figures}
 use Rattle.interface.specs.declared.returning.Returned.{Returned}
-use Rattle.interface.specs.Columns.{digester}
+use Rattle.interface.specs.declared.columns.Digester as inDigester
+use Rattle.interface.specs.Columns.{Digester, digester, digesterColumns, digesterCeilings, Below}
+use Rattle.interface.specs.Units.{digesterCounts}
+use Rattle.interface.specs.Held.{LowDigester}
 use Rattle.interface.specs.Return.{Nitrogen, nitrogenOf, taken, returnShort, returnRefused, returnTaken, returnDigester, returnOf}
 use Rattle.interface.specs.Laws.{ReturnKeeps, ReturnLaw}
 
 pub taken-nitrogen : (q : ℕ) (n : Nitrogen) → returnShort q n ≡ false → taken q n .xnd + taken q n .snd + taken q n .snh + q ≡ n.xnd + n.snd + n.snh
 unfolding taken returnShort
 taken-nitrogen q n e = omega (arith, ltb-false (n.xnd + n.snd + n.snh) q e)
+
+pub low-is : {d : inDigester.Digester} (c : List ℕ) → digesterCounts d ≡ digester c → Below digesterCeilings c → LowDigester d
+low-is c e b = subst (λ w. Below digesterCeilings (digesterColumns w)) (sym e) b
+
+-- the two outcomes, by the nitrogen n of d and the need q
+module _ (f : Figures) (d : Digester) {n : Nitrogen} {q : ℕ} (en : n ≡ nitrogenOf f d) (eq : q ≡ f.ixe * d.xi) where
+  pub return-short : returnShort q n ≡ true → returnRefused 5 ≡ returnDigester f d
+  unfolding returnDigester
+  return-short t = rw (rw (en, eq) at t)
+
+  pub return-taken : returnShort q n ≡ false → returnTaken f d ≡ returnDigester f d
+  unfolding returnDigester
+  return-taken t = rw (rw (en, eq) at t)
 
 -- an accepted conversion has passed its test
 pub record ReturnAccepted (f : Figures) (c : List ℕ) : Type 0 where
