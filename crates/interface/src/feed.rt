@@ -7,16 +7,16 @@ ghost use Rattle.interface.specs.Figures.{Permitted};
 ghost use Rattle.interface.specs.Units.{asm1Counts, digesterCounts};
 ghost use Rattle.interface.specs.Feed.{nitrateRule, ceil, warnOf, stage1, stage2, stage3, stage4, stage5, stages, fedVector, feedRefused, feedTaken, feedAsm1, feedOf};
 ghost use Rattle.interface.specs.Held.{Low, Demands, Leaves, AcidsHeld, InertsHeld, RemainsHeld, StagesHeld};
-use crate::columns::asm1_of;
-use crate::columns::digester_array;
 use crate::columns::Asm1;
 use crate::columns::Digester;
+use crate::columns::asm1_of;
+use crate::columns::digester_array;
 use crate::figures::Figures;
+use crate::units::Milligrams;
+use crate::units::Ticks;
 use crate::units::afforded;
 use crate::units::nitrogen;
 use crate::units::share;
-use crate::units::Milligrams;
-use crate::units::Ticks;
 
 // What a feed conversion gives: refusal 0 with the vector and the numbers told, or a refusal with zeros.
 pub struct Fed {
@@ -71,7 +71,15 @@ fn feed_refused(n: u64) -> Fed
 }
 
 // What an accepted conversion tells, with its vector.
-fn feed_taken(f: Figures, v: Asm1, demand: Demand, left: Left, acids: Acids, inerts: Inerts, remains: Remains) -> Fed
+fn feed_taken(
+    f: Figures,
+    v: Asm1,
+    demand: Demand,
+    left: Left,
+    acids: Acids,
+    inerts: Inerts,
+    remains: Remains,
+) -> Fed
     requires { ⌜ (Demands demand (stage1 nitrateRule (asm1Counts v))) × (StagesHeld left acids inerts remains (v .xi .0 + v .xp .0) (stages f (asm1Counts v))) ⌝ }
     ensures { λ r. ⌜ r ≡ feedTaken (asm1Counts v) (stages f (asm1Counts v)) ⌝ }
 {
@@ -91,6 +99,7 @@ fn feed_taken(f: Figures, v: Asm1, demand: Demand, left: Left, acids: Acids, ine
 
 // The nitrate rule: 286 mg of COD reduce 1,000,000 ticks of nitrate.
 const NITRATE_COD: u64 = 286;
+
 const NITRATE_TICKS: u64 = 1000000;
 
 // The nitrate that COD can reduce, rounded down.
@@ -126,7 +135,12 @@ fn demand_of(v: Asm1) -> Demand
     let o = v.so.least(a);
     let r = v.sno.least(reducible(a.less(o)));
     let d = Milligrams(o.0 + nitrate_cod(r).0);
-    Demand { a: a, o: o, r: r, d: d }
+    Demand {
+        a: a,
+        o: o,
+        r: r,
+        d: d,
+    }
 }
 
 // What stage 1 leaves.
@@ -250,7 +264,14 @@ fn remains_of(f: Figures, v: Asm1, left: Left, inerts: Inerts) -> Remains
 }
 
 // The digester vector that the stages give. All columns that no stage names are zero.
-fn fed_vector(f: Figures, v: Asm1, left: Left, acids: Acids, inerts: Inerts, remains: Remains) -> Digester
+fn fed_vector(
+    f: Figures,
+    v: Asm1,
+    left: Left,
+    acids: Acids,
+    inerts: Inerts,
+    remains: Remains,
+) -> Digester
     requires { ⌜ StagesHeld left acids inerts remains (v .xi .0 + v .xp .0) (stages f (asm1Counts v)) ⌝ }
     ensures { λ r. ⌜ digesterCounts r ≡ fedVector (asm1Counts v) (stages f (asm1Counts v)) ⌝ }
 {

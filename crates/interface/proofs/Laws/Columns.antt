@@ -4,6 +4,7 @@
 --   within-..            the ceiling test: at a column, one turn of a loop, its end, as inequalities
 --   added-..             the sum: its length, a column
 --   top, within-top      the highest ceiling of a table bounds every column
+--   added-fits           so that sums fit 64 bits
 use mathlib.Core.Bool.{Bool, true, false, _&&_, and-false}
 use mathlib.Core.List.{List, [], _∷_, _++_}
 use mathlib.Core.Path.{_≡_, refl, sym, ap, _∙_}
@@ -139,3 +140,6 @@ added-length (x ∷ a) (y ∷ b) e = ap suc (added-length a b (omega arith))
 -- a sum within its ceilings bounds its terms
 pub added-top : (cs a b : List ℕ) → within cs (added a b) ≡ true → (i : ℕ) → getD a i 0 + getD b i 0 ≤ top cs
 added-top cs a b e i = rw (← added-column a b i) (within-top cs (added a b) e i)
+
+pub added-fits : (cs a b : List ℕ) → top cs < 18446744073709551616 → within cs (added a b) ≡ true → (i : ℕ) → getD a i 0 + getD b i 0 < 18446744073709551616
+added-fits cs a b h e i = omega (arith, added-top cs a b e i)

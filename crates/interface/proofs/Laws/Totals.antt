@@ -3,19 +3,21 @@
 --   weigh-added, weigh-split, weigh-none   a weighing is linear
 --   weigh-step, weigh-end                  one turn of a loop that weighs, and its end
 --   asm1Cod-weigh, ..                      the totals as weighings
+--   asm1Cod-le, ..                         bounds
 --   total-laws                             TotalLaws
 use mathlib.Core.List.{List, [], _∷_}
 use mathlib.Core.Path.{_≡_, refl, ap}
 use Prim.Native.Nat.{ℕ, zero, suc, _+_, _*_, _≤_, _<_}
-use native.Mathlib.Nat.{mul-add, mul-zero}
+use native.Mathlib.Nat.{mul-add, mul-zero, mul-le-mul-right}
 use native.Mathlib.Numerals.{add-one}
 use native.Mathlib.Omega.{arith}
 use lib.ListN.{length, getD, drop, replicate}
 use lib.Seq.{drop-cons, drop-length}
 use Rattle.interface.specs.declared.figures.Figures.{Figures}
-use Rattle.interface.specs.Columns.{added}
+use Rattle.interface.specs.Columns.{asm1, asm1Ceilings, digester, digesterCeilings, Below, added}
+use Rattle.interface.specs.Figures.{Permitted}
 use Rattle.interface.specs.Draw.{drawn, rest}
-use Rattle.interface.specs.Totals.{asm1Cod, asm1Tkn, asm1Oxygen, asm1Nitrate, digesterCod, digesterTkn, digesterOxygen, digesterNitrate, weigh, weighFrom, asm1CodWeights, asm1Fractions, digesterCodWeights, digesterFractions}
+use Rattle.interface.specs.Totals.{asm1Cod, asm1Tkn, asm1Oxygen, asm1Nitrate, digesterCod, digesterTkn, digesterOxygen, digesterNitrate, degraders, weigh, weighFrom, asm1CodWeights, asm1Fractions, digesterCodWeights, digesterFractions}
 use Rattle.interface.specs.Laws.{Linear, TotalLaws}
 use Rattle.interface.proofs.Laws.Columns.{added-column}
 use Rattle.interface.proofs.Laws.Draw.{column-splits}
@@ -81,10 +83,25 @@ pub digesterTkn-weigh : (f : Figures) (c : List ℕ) → digesterTkn f c ≡ wei
 unfolding weighFrom
 digesterTkn-weigh f c = omega arith
 
--- one column, as a weighing
-column-weigh : (n : ℕ) (c : List ℕ) → getD c n 0 ≡ weighFrom n (1 ∷ []) c
-unfolding weighFrom
-column-weigh n c = omega arith
+-- ---- bounds, for vectors within their ceilings
+
+pub asm1Cod-le : (c : List ℕ) → Below asm1Ceilings c → asm1Cod c ≤ 7_000_000_000_000
+asm1Cod-le c b = omega (arith, b)
+
+pub asm1Tkn-le : (f : Figures) (c : List ℕ) → Permitted f → Below asm1Ceilings c → asm1Tkn f c ≤ 70_000_000_000_000_000
+asm1Tkn-le f c h b =
+    let v = asm1 c in
+    omega (arith, b, mul-le-mul-right (v .xbh + v .xba) (h .ixb-le), mul-le-mul-right (v .xi + v .xp) (h .ixe-le))
+
+pub digesterCod-le : (c : List ℕ) → Below digesterCeilings c → digesterCod c ≤ 22_000_000_000_000
+digesterCod-le c b = omega (arith, b)
+
+pub digesterTkn-le : (f : Figures) (c : List ℕ) → Permitted f → Below digesterCeilings c → digesterTkn f c ≤ 130_000_000_000_000_000
+digesterTkn-le f c h b =
+    let d = digester c in
+    omega (arith, b, mul-le-mul-right (d .xc) (h .nxc-le), mul-le-mul-right (d .si + d .xi) (h .ni-le), mul-le-mul-right (d .xpr + d .saa) (h .naa-le), mul-le-mul-right (degraders d) (h .nbac-le))
+
+-- ---- the laws
 
 column-linear : (n : ℕ) → Linear (λ c. getD c n 0)
 column-linear n =

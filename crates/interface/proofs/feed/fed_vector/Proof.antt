@@ -35,7 +35,7 @@ returns c =
       sin = h .remains .sin i;
       sic = v .salk .0;
       co = h .left .co i;
-      cn = h .left .cn i
+      cn = h .left .cn i;
     }
 
 pub fed-vector-spec : {M : Type 1} → statement M

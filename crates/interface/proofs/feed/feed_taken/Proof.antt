@@ -29,7 +29,7 @@ returns c =
       oxygen = milligrams (d .o i);
       nitrate = ticks (d .r i);
       warn = c .before .before .before .before .before .pre .1 .left .warn i;
-      vector = vector i
+      vector = vector i;
     }
 
 pub feed-taken-spec : {M : Type 1} → statement M

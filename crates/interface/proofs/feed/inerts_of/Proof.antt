@@ -56,7 +56,7 @@ returns c =
       short = cc (pool .0, xi .0, q);
       xi-le = xi .1;
       P'-le = omega (arith, c .before .before .before .before .before .less .ensures .1);
-      H'-le = omega (arith, c .before .before .before .less3 .ensures .1)
+      H'-le = omega (arith, c .before .before .before .less3 .ensures .1);
     }
 
 pub inerts-of-spec : {M : Type 1} → statement M

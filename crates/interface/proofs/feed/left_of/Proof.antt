@@ -73,7 +73,7 @@ returns c =
       ss-le = omega (arith, c .before .before .before .before .less6 .ensures .1);
       xs-le = omega (arith, c .before .before .before .less7 .ensures .1);
       xbh-le = omega (arith, c .before .before .less8 .ensures .1);
-      xba-le = omega (arith, c .before .less9 .ensures .1)
+      xba-le = omega (arith, c .before .less9 .ensures .1);
     }
 
 pub left-of-spec : {M : Type 1} → statement M

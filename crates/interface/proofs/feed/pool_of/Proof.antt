@@ -49,9 +49,10 @@ returns : tie.Need-returns
 unfolding stage3
 returns c =
     let low = c .before .before .before .before .before .before .before .before .before .before .pre .1 .0 in
-    let held = c .before .before .before .before .before .before .before .before .before .before .pre .1 .1 in
-    (cc (held .saa, c .before .before .before .before .before .before .before .before .before .nitrogen .ensures .0, c .before .before .before .before .before .before .before .before .less .ensures .0, c .before .before .before .before .before .before .nitrogen2 .ensures .0, c .before .before .before .before .nitrogen3 .ensures .0),
-    omega (arith, c .before .before .before .before .before .before .before .before .less .ensures .1, c .before .before .before .before .before .before .nitrogen2 .ensures .1, c .before .before .before .before .nitrogen3 .ensures .1))
+    let held = c .before .before .before .before .before .before .before .before .before .before .pre .1 .1 in (
+      cc (held .saa, c .before .before .before .before .before .before .before .before .before .nitrogen .ensures .0, c .before .before .before .before .before .before .before .before .less .ensures .0, c .before .before .before .before .before .before .nitrogen2 .ensures .0, c .before .before .before .before .nitrogen3 .ensures .0),
+      omega (arith, c .before .before .before .before .before .before .before .before .less .ensures .1, c .before .before .before .before .before .before .nitrogen2 .ensures .1, c .before .before .before .before .nitrogen3 .ensures .1),
+    )
 
 pub pool-of-spec : {M : Type 1} → statement M
 pool-of-spec =

@@ -75,7 +75,7 @@ returns c =
       xc = cc (left .xs, left .xbh, left .xba, inerts .xi, inerts .P', xc);
       xch = cc (left .xs, left .xbh, left .xba, inerts .xi, inerts .P', xc, c .before .before .before .before .before .before .less .ensures .0, xch);
       xli = cc (left .xs, left .xbh, left .xba, inerts .xi, inerts .P', xc, c .before .before .before .before .before .before .less .ensures .0, xch, c .before .before .before .less2 .ensures .0);
-      sin = cc (left .xs, left .xbh, left .xba, inerts .xi, inerts .P', inerts .H', xc, c .before .nitrogen .ensures .0, c .less3 .ensures .0)
+      sin = cc (left .xs, left .xbh, left .xba, inerts .xi, inerts .P', inerts .H', xc, c .before .nitrogen .ensures .0, c .less3 .ensures .0);
     }
 
 pub remains-of-spec : {M : Type 1} → statement M

@@ -58,14 +58,15 @@ returns : tie.Need-returns
 returns c =
     let f = c .before .before .before .before .before .before .before .before .before .before .before .before .before .before .args .f in
     let d = c .before .before .before .before .before .before .before .before .before .before .before .before .before .before .args .d in
-    let biomass = c .before .before .before .before .before .before .before .before .before .before .nitrogen3 .ensures .0 ∙ ap (λ (n : ℕ). f .nbac * n) (c .before .before .before .before .before .before .before .before .before .before .before .degraders-of .ensures .0) in
-    (λ i.
-    record {
-      xnd = c .before .before .before .before .before .before .before .before .before .before .before .before .before .nitrogen .ensures .0 i + c .before .before .before .before .before .before .before .before .before .before .before .before .nitrogen2 .ensures .0 i + biomass i + c .before .before .before .before .before .before .before .before .before .nitrogen4 .ensures .0 i;
-      snd = c .before .before .before .before .before .before .before .before .nitrogen5 .ensures .0 i + c .before .before .before .before .before .before .before .nitrogen6 .ensures .0 i;
-      snh = d .sin .0
-    },
-    omega (arith, c .before .before .before .before .before .before .before .before .before .before .before .before .before .before .pre, c .before .before .before .before .before .before .before .before .nitrogen5 .ensures .1, c .before .before .before .before .before .before .before .nitrogen6 .ensures .1, c .before .before .before .before .before .before .before .before .before .before .before .before .before .nitrogen .ensures .1, c .before .before .before .before .before .before .before .before .before .before .before .before .nitrogen2 .ensures .1, c .before .before .before .before .before .before .before .before .before .before .nitrogen3 .ensures .1, c .before .before .before .before .before .before .before .before .before .nitrogen4 .ensures .1, c .before .before .before .before .before .before .before .before .before .before .before .degraders-of .ensures .1))
+    let biomass = c .before .before .before .before .before .before .before .before .before .before .nitrogen3 .ensures .0 ∙ ap (λ (n : ℕ). f .nbac * n) (c .before .before .before .before .before .before .before .before .before .before .before .degraders-of .ensures .0) in (
+      λ i.
+          record {
+            xnd = c .before .before .before .before .before .before .before .before .before .before .before .before .before .nitrogen .ensures .0 i + c .before .before .before .before .before .before .before .before .before .before .before .before .nitrogen2 .ensures .0 i + biomass i + c .before .before .before .before .before .before .before .before .before .nitrogen4 .ensures .0 i;
+            snd = c .before .before .before .before .before .before .before .before .nitrogen5 .ensures .0 i + c .before .before .before .before .before .before .before .nitrogen6 .ensures .0 i;
+            snh = d .sin .0;
+          },
+      omega (arith, c .before .before .before .before .before .before .before .before .before .before .before .before .before .before .pre, c .before .before .before .before .before .before .before .before .nitrogen5 .ensures .1, c .before .before .before .before .before .before .before .nitrogen6 .ensures .1, c .before .before .before .before .before .before .before .before .before .before .before .before .before .nitrogen .ensures .1, c .before .before .before .before .before .before .before .before .before .before .before .before .nitrogen2 .ensures .1, c .before .before .before .before .before .before .before .before .before .before .nitrogen3 .ensures .1, c .before .before .before .before .before .before .before .before .before .nitrogen4 .ensures .1, c .before .before .before .before .before .before .before .before .before .before .before .degraders-of .ensures .1),
+    )
 
 pub nitrogen-of-spec : {M : Type 1} → statement M
 nitrogen-of-spec =

@@ -28,7 +28,7 @@ returns : tie.Need-returns
 returns c =
     let d = digesterCounts (c .before .before .before .args .d) in
     let vector =
-      c .asm1-array .ensures ∙ ap asm1Columns (c .before .before .returned-vector .ensures ∙ ap (returnedVector d) (c .before .before .before .pre .1)) in
+    c .asm1-array .ensures ∙ ap asm1Columns (c .before .before .returned-vector .ensures ∙ ap (returnedVector d) (c .before .before .before .pre .1)) in
     λ i. record { refusal = 0; stripped = milligrams (stripped d); vector = vector i }
 
 pub return-taken-spec : {M : Type 1} → statement M

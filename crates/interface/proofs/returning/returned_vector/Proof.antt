@@ -33,7 +33,7 @@ returns c =
       snh = n .snh .0;
       snd = n .snd .0;
       xnd = n .xnd .0;
-      salk = d .sic .0
+      salk = d .sic .0;
     }
 
 pub returned-vector-spec : {M : Type 1} → statement M
