@@ -6,6 +6,7 @@
 --   mapped-more        one turn of a loop that makes such a vector
 --   drawn-fits         a column times k fits 64 bits
 --   within-drawn       what is drawn is within the ceilings
+--   drawn-below        the same as inequalities
 use mathlib.Core.Bool.{Bool, true, false, _&&_}
 use mathlib.Core.List.{List, [], _∷_, map}
 use mathlib.Core.Path.{_≡_, refl, sym}
@@ -15,10 +16,10 @@ use native.Mathlib.Omega.{arith}
 use lib.Dec.{leb}
 use lib.ListN.{length, getD, set}
 use borrow.Author.Tests.{leb-true, le-leb}
-use Rattle.interface.specs.Columns.{within}
+use Rattle.interface.specs.Columns.{within, Below}
 use Rattle.interface.specs.Draw.{part, remainder, drawn, rest}
 use Rattle.interface.specs.Laws.{ColumnSplits}
-use Rattle.interface.proofs.Laws.Columns.{both-true, top, within-top, Filled, filled-at, filled-more}
+use Rattle.interface.proofs.Laws.Columns.{both-true, top, within-top, within-below, Filled, filled-at, filled-more}
 
 pub part-le : (k x : ℕ) → k ≤ 1000 → part k x ≤ x
 part-le k x h = omega (arith, mul-le-mul-left x h)
@@ -47,3 +48,7 @@ within-drawn k h (c ∷ cs) (x ∷ v) e =
 
 pub drawn-fits : (cs v : List ℕ) (k : ℕ) → top cs * 1000 < 18446744073709551616 → within cs v ≡ true → k ≤ 1000 → (i : ℕ) → getD v i 0 * k < 18446744073709551616
 drawn-fits cs v k h e l i = omega (arith, mul-le-mul (within-top cs v e i) l)
+
+-- what a draw asks of the vector it gives
+pub drawn-below : (cs v : List ℕ) (k : ℕ) → within cs v ≡ true → k ≤ 1000 → Below cs (drawn k v)
+drawn-below cs v k e l = within-below cs (drawn k v) (within-drawn k l cs v e)

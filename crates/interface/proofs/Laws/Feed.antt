@@ -1,6 +1,7 @@
 -- Laws of the feed stages, and that an accepted feed keeps COD, TKN, oxygen and nitrate. Users of a stage go by these laws and not by its text. Assumes nothing.
 --
 --   stage1-..  ..  stage5-..      what each stage keeps
+--   stage1-is  ..  stage5-is      the same numbers, step by step
 --   low-is                        a vector read from an array is as low as the array
 --   feed-short, ..                the three outcomes of the conversion
 --   feed-accepted                 what an accepted conversion is
@@ -18,7 +19,7 @@ use Rattle.interface.specs.declared.columns.Asm1 as inAsm1
 use Rattle.interface.specs.Columns.{Asm1, asm1, asm1Columns, asm1Ceilings, Below}
 use Rattle.interface.specs.Units.{asm1Counts}
 use Rattle.interface.specs.Held.{Low}
-use Rattle.interface.specs.Feed.{NitrateRule, nitrateRule, warnOf, Stage1, Stage2, Stage4, Stage5, stage1, stage2, stage3, stage4, stage5, stages, feedRefused, feedTaken, feedAsm1, feedOf}
+use Rattle.interface.specs.Feed.{NitrateRule, nitrateRule, ceil, warnOf, Stage1, Stage2, Stage4, Stage5, stage1, stage2, stage3, stage4, stage5, stages, feedRefused, feedTaken, feedAsm1, feedOf}
 use Rattle.interface.specs.Laws.{FeedKeeps, FeedLaw}
 use Rattle.interface.proofs.Laws.Units.{afford, share-le}
 
@@ -100,6 +101,42 @@ module _ (f : Figures) (v : Asm1) (s1 : Stage1) (s4 : Stage4) where
   pub stage5-nitrogen : stage5 f v s1 s4 .sin + f.nxc * stage5 f v s1 s4 .xc ≡ s4.H' + s4.P'
   unfolding stage5
   stage5-nitrogen = omega (arith, afford (stage5 f v s1 s4 .R) s4.P' f.nxc .1)
+
+-- ---- the stages, step by step: numbers that are made as the stage makes its own are the stage's own
+
+module _ (n : NitrateRule) (v : Asm1) where
+  pub stage1-is : {a o x m r k d : ℕ} → a ≡ v.ss + v.xs + v.xbh + v.xba → o ≡ min v.so a → x ≡ a - o → m ≡ n.ticks * x / n.cod
+      → r ≡ min v.sno m → k ≡ ceil (n.cod * r) n.ticks → d ≡ o + k
+      → (a ≡ stage1 n v .A) × (o ≡ stage1 n v .o) × (r ≡ stage1 n v .r) × (d ≡ stage1 n v .D)
+  unfolding stage1
+  stage1-is a o x m r k d = (a, cc, cc, cc)
+
+module _ (f : Figures) (v : Asm1) (s1 : Stage1) where
+  pub stage2-is : {ss saa ssu : ℕ} → ss ≡ s1.ss → saa ≡ min ss (v.snd / f.naa) → ssu ≡ ss - saa
+      → (saa ≡ stage2 f v s1 .saa) × (ssu ≡ stage2 f v s1 .ssu)
+  unfolding stage2
+  stage2-is ss saa ssu = (cc, cc)
+
+module _ (f : Figures) (v : Asm1) (s2 : Stage2) where
+  pub stage3-is : {saa n left biomass inert : ℕ} → saa ≡ s2.saa → n ≡ f.naa * saa → left ≡ v.snd - n → biomass ≡ f.ixb * (v.xbh + v.xba)
+      → inert ≡ f.ixe * (v.xi + v.xp) → left + v.xnd + biomass + inert ≡ stage3 f v s2
+  unfolding stage3
+  stage3-is saa n left biomass inert = cc
+
+module _ (f : Figures) (v : Asm1) (P : ℕ) where
+  pub stage4-is : {p xi q p' x h : ℕ} → p ≡ P → xi ≡ f.fxi * (v.xi + v.xp) / 10000 → q ≡ f.ni * (v.si + xi) → p' ≡ p - q → x ≡ q - p
+      → h ≡ v.snh - x
+      → (p' ≡ stage4 f v P .P') × (h ≡ stage4 f v P .H') × (ltb (p + v.snh) q ≡ stage4 f v P .short)
+  unfolding stage4
+  stage4-is p xi q p' x h = (cc, cc, cc)
+
+module _ (f : Figures) (v : Asm1) (s1 : Stage1) (s4 : Stage4) where
+  pub stage5-is : {all pool ammonia xc rest xch xli n sin : ℕ} → all ≡ s1.xs + s1.xbh + s1.xba + v.xi + v.xp - s4.xi → pool ≡ s4.P'
+      → ammonia ≡ s4.H' → xc ≡ min all (pool / f.nxc) → rest ≡ all - xc → xch ≡ f.fch * rest / (f.fch + f.fli) → xli ≡ rest - xch
+      → n ≡ f.nxc * xc → sin ≡ ammonia + pool - n
+      → (xc ≡ stage5 f v s1 s4 .xc) × (xch ≡ stage5 f v s1 s4 .xch) × (xli ≡ stage5 f v s1 s4 .xli) × (sin ≡ stage5 f v s1 s4 .sin)
+  unfolding stage5
+  stage5-is all pool ammonia xc rest xch xli n sin = (cc, cc, cc, cc)
 
 -- ---- the whole conversion
 

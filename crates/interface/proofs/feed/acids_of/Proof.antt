@@ -1,5 +1,6 @@
+use Rattle.interface.specs.Units.{asm1Counts}
+use Rattle.interface.proofs.Laws.Feed.{stage2-is}
 use native.Mathlib.Omega.{arith}
-use Rattle.interface.specs.Feed.{stage2}
 use borrow.Author.Needs.{needs}
 use Rattle.interface.proofs.feed.acids_of.Statement.{statement}
 use Rattle.interface.proofs.feed.acids_of.Tie as tie
@@ -18,10 +19,10 @@ less-requires c κs = search needs
 
 -- src/feed.rt:121:1
 returns : tie.Need-returns
-unfolding stage2
 returns c =
     let held = c .before .before .pre .1 .1 in
-    record { saa = cc (held .ss, c .before .afforded .ensures .0); ssu = cc (held .ss, c .before .afforded .ensures .0, c .less .ensures .0); saa-le = omega (arith, held .ss-le, c .before .afforded .ensures .1) }
+    let p = stage2-is (c .before .before .args .f) (asm1Counts (c .before .before .args .v)) _ (held .ss) (c .before .afforded .ensures .0) (c .less .ensures .0) in
+    record { saa = p .0; ssu = p .1; saa-le = omega (arith, held .ss-le, c .before .afforded .ensures .1 .0) }
 
 pub acids-of-spec : {M : Type 1} → statement M
 acids-of-spec = tie.close (tie.spec afforded-requires less-requires returns)

@@ -1,5 +1,7 @@
+use Rattle.interface.specs.Units.{asm1Counts}
+use Rattle.interface.specs.Feed.{nitrateRule}
+use Rattle.interface.proofs.Laws.Feed.{stage1-is}
 use mathlib.Core.Path.{refl}
-use Rattle.interface.specs.Feed.{stage1}
 use native.Mathlib.Omega.{arith}
 use borrow.Author.Needs.{needs}
 use Rattle.interface.proofs.feed.demand_of.Statement.{statement}
@@ -50,8 +52,11 @@ add-t6-2 c = let low = c .before .before .before .before .before .before .before
 
 -- src/feed.rt:59:1
 returns : tie.Need-returns
-unfolding stage1
-returns c = record { A = refl; o = cc; r = cc; D = cc }
+returns c =
+    let p =
+      stage1-is nitrateRule (asm1Counts (c .before .before .before .before .before .before .before .before .before .before .args .v)) refl (c .before .before .before .before .before .before .least .ensures .0) (c .before .before .before .before .before .less .ensures .0) (c .before .before .before .before .reducible .ensures)
+      (c .before .before .before .least2 .ensures .0) (c .before .before .nitrate-cod .ensures .0) refl in
+    record { A = p .0; o = p .1; r = p .2; D = p .3 }
 
 pub demand-of-spec : {M : Type 1} → statement M
 demand-of-spec =

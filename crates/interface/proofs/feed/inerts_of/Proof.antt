@@ -1,5 +1,7 @@
-use native.Mathlib.Omega.{arith}
+use Rattle.interface.specs.Units.{asm1Counts}
 use Rattle.interface.specs.Feed.{stage4}
+use Rattle.interface.proofs.Laws.Feed.{stage4-is}
+use native.Mathlib.Omega.{arith}
 use borrow.Author.Needs.{needs}
 use Rattle.interface.proofs.feed.inerts_of.Statement.{statement}
 use Rattle.interface.proofs.feed.inerts_of.Tie as tie
@@ -45,18 +47,19 @@ add-t6-3 c = let low = c .before .before .before .before .before .before .before
 returns : tie.Need-returns
 unfolding stage4
 returns c =
-    let low = c .before .before .before .before .before .before .before .before .before .before .before .pre .1 .0 in
     let pool = c .before .before .before .before .before .before .before .before .before .before .before .pre .1 .1 in
     let xi = c .before .before .before .before .before .before .before .before .before .share .ensures in
-    let q = c .before .before .before .before .before .before .nitrogen .ensures .0 in
+    let p =
+      stage4-is (c .before .before .before .before .before .before .before .before .before .before .before .args .f) (asm1Counts (c .before .before .before .before .before .before .before .before .before .before .before .args .v)) _ (pool .0) (xi .0) (c .before .before .before .before .before .before .nitrogen .ensures .0) (c .before .before .before .before .before .less .ensures .0)
+      (c .before .before .before .before .less2 .ensures .0) (c .before .before .before .less3 .ensures .0) in
     record {
       xi = xi .0;
-      P' = cc (pool .0, xi .0, q, c .before .before .before .before .before .less .ensures .0);
-      H' = cc (pool .0, xi .0, q, c .before .before .before .before .less2 .ensures .0, c .before .before .before .less3 .ensures .0);
-      short = cc (pool .0, xi .0, q);
+      P' = p .0;
+      H' = p .1;
+      short = p .2;
       xi-le = xi .1;
-      P'-le = omega (arith, c .before .before .before .before .before .less .ensures .1);
-      H'-le = omega (arith, c .before .before .before .less3 .ensures .1);
+      P'-le = omega (arith, pool .1, c .before .before .before .before .before .less .ensures .1);
+      H'-le = omega (arith, c .before .before .before .before .before .before .before .before .before .before .before .pre .1 .0, c .before .before .before .less3 .ensures .1)
     }
 
 pub inerts-of-spec : {M : Type 1} → statement M

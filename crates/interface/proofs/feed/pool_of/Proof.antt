@@ -1,5 +1,6 @@
+use Rattle.interface.specs.Units.{asm1Counts}
+use Rattle.interface.proofs.Laws.Feed.{stage3-is}
 use native.Mathlib.Omega.{arith}
-use Rattle.interface.specs.Feed.{stage3}
 use borrow.Author.Needs.{needs}
 use Rattle.interface.proofs.feed.pool_of.Statement.{statement}
 use Rattle.interface.proofs.feed.pool_of.Tie as tie
@@ -46,13 +47,9 @@ add-t11 c = omega (arith, c .before .before .before .before .before .before .bef
 
 -- src/feed.rt:133:1
 returns : tie.Need-returns
-unfolding stage3
 returns c =
-    let low = c .before .before .before .before .before .before .before .before .before .before .pre .1 .0 in
-    let held = c .before .before .before .before .before .before .before .before .before .before .pre .1 .1 in (
-      cc (held .saa, c .before .before .before .before .before .before .before .before .before .nitrogen .ensures .0, c .before .before .before .before .before .before .before .before .less .ensures .0, c .before .before .before .before .before .before .nitrogen2 .ensures .0, c .before .before .before .before .nitrogen3 .ensures .0),
-      omega (arith, c .before .before .before .before .before .before .before .before .less .ensures .1, c .before .before .before .before .before .before .nitrogen2 .ensures .1, c .before .before .before .before .nitrogen3 .ensures .1),
-    )
+    (stage3-is (c .before .before .before .before .before .before .before .before .before .before .args .f) (asm1Counts (c .before .before .before .before .before .before .before .before .before .before .args .v)) _ (c .before .before .before .before .before .before .before .before .before .before .pre .1 .1 .saa) (c .before .before .before .before .before .before .before .before .before .nitrogen .ensures .0) (c .before .before .before .before .before .before .before .before .less .ensures .0) (c .before .before .before .before .before .before .nitrogen2 .ensures .0) (c .before .before .before .before .nitrogen3 .ensures .0),
+    omega (arith, c .before .before .before .before .before .before .before .before .before .before .pre .1 .0, c .before .before .before .before .before .before .before .before .less .ensures .1, c .before .before .before .before .before .before .nitrogen2 .ensures .1, c .before .before .before .before .nitrogen3 .ensures .1))
 
 pub pool-of-spec : {M : Type 1} → statement M
 pool-of-spec =

@@ -1,5 +1,7 @@
+use Prim.Native.Nat.{_+_, _-_}
+use Rattle.interface.specs.Units.{asm1Counts}
+use Rattle.interface.proofs.Laws.Feed.{stage5-is}
 use native.Mathlib.Omega.{arith}
-use Rattle.interface.specs.Feed.{stage5}
 use borrow.Author.Needs.{needs}
 use Rattle.interface.proofs.feed.remains_of.Statement.{statement}
 use Rattle.interface.proofs.feed.remains_of.Tie as tie
@@ -65,18 +67,16 @@ less-requires-3 c κs = search needs
 
 -- src/feed.rt:175:1
 returns : tie.Need-returns
-unfolding stage5
 returns c =
+    let v = c .before .before .before .before .before .before .before .before .before .before .before .before .before .args .v in
     let left = c .before .before .before .before .before .before .before .before .before .before .before .before .before .pre .1 .0 in
     let inerts = c .before .before .before .before .before .before .before .before .before .before .before .before .before .pre .1 .1 in
-    let xc = c .before .before .before .before .before .before .before .afforded .ensures .0 in
-    let xch = c .before .before .before .before .share .ensures .0 in
-    record {
-      xc = cc (left .xs, left .xbh, left .xba, inerts .xi, inerts .P', xc);
-      xch = cc (left .xs, left .xbh, left .xba, inerts .xi, inerts .P', xc, c .before .before .before .before .before .before .less .ensures .0, xch);
-      xli = cc (left .xs, left .xbh, left .xba, inerts .xi, inerts .P', xc, c .before .before .before .before .before .before .less .ensures .0, xch, c .before .before .before .less2 .ensures .0);
-      sin = cc (left .xs, left .xbh, left .xba, inerts .xi, inerts .P', inerts .H', xc, c .before .nitrogen .ensures .0, c .less3 .ensures .0);
-    }
+    let p =
+      stage5-is (c .before .before .before .before .before .before .before .before .before .before .before .before .before .args .f) (asm1Counts v) _ _
+      (λ i. left .xs i + left .xbh i + left .xba i + v .xi .0 + v .xp .0 - inerts .xi i)
+      (inerts .P') (inerts .H') (c .before .before .before .before .before .before .before .afforded .ensures .0) (c .before .before .before .before .before .before .less .ensures .0) (c .before .before .before .before .share .ensures .0) (c .before .before .before .less2 .ensures .0)
+      (c .before .nitrogen .ensures .0) (c .less3 .ensures .0) in
+    record { xc = p .0; xch = p .1; xli = p .2; sin = p .3 }
 
 pub remains-of-spec : {M : Type 1} → statement M
 remains-of-spec =
