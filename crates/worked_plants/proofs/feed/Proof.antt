@@ -1,92 +1,67 @@
-use mathlib.Core.Path.{sym, subst, _∙_}
+-- `worked_plants::feed` meets its contract. Assumes nothing.
+use mathlib.Core.Path.{sym, _∙_}
 use lib.Dec.{lit≤}
-use Rattle.interface.specs.Columns.{asm1Ceilings, Below}
+use Rattle.interface.specs.Columns.{asm1Ceilings}
 use Rattle.interface.proofs.Laws.Figures.{house-permitted}
 use Rattle.interface.proofs.Laws.Draw.{drawn-below}
 use borrow.Author.Needs.{needs}
 use Rattle.worked_plants.proofs.feed.Statement.{statement}
 use Rattle.worked_plants.proofs.feed.Tie as tie
-use Rattle.worked_plants.proofs.feed.Reads as reads
-use Rattle.worked_plants.proofs.feed.Lts as lts
-use Rattle.interface.proofs.asm1_within.Reads as asm1-within-reads
-use Rattle.interface.proofs.asm1_drawn.Reads as asm1-drawn-reads
-use Rattle.interface.proofs.feed_of.Reads as feed-of-reads
-use Rattle.io.proofs.write_all.Reads as write-all-reads
-use Rattle.worked_plants.proofs.begin.Reads as begin-reads
-use Rattle.worked_plants.proofs.digester.Reads as digester-reads
-use Rattle.worked_plants.proofs.number.Reads as number-reads
 
--- src/main.rt:115:5
 begin-requires : tie.Need-begin-requires
 begin-requires c κs = search needs
 
--- src/main.rt:116:8
 asm1-within-requires : tie.Need-asm1-within-requires
 asm1-within-requires c κs = search needs
 
--- src/main.rt:117:13
 asm1-drawn-requires : tie.Need-asm1-drawn-requires
 asm1-drawn-requires c κs = (sym (c .before .asm1-within .ensures) ∙ c .if1 .taken, lit≤ tt)
 
--- src/main.rt:118:13
 feed-of-requires : tie.Need-feed-of-requires
-feed-of-requires c κs =
-    (house-permitted,
-    rw (c .asm1-drawn .ensures) (drawn-below asm1Ceilings _ 1000 (sym (c .before .before .asm1-within .ensures) ∙ c .before .if1 .taken) (lit≤ tt)))
+feed-of-requires c κs = (
+  house-permitted,
+  rw (c .asm1-drawn .ensures) (drawn-below asm1Ceilings _ 1000 (sym (c .before .before .asm1-within .ensures) ∙ c .before .if1 .taken) (lit≤ tt)),
+)
 
--- src/main.rt:119:16
 slice-aggregate-number : tie.Need-slice-aggregate-number
 slice-aggregate-number c = search needs
 
--- src/main.rt:119:9
 number-requires : tie.Need-number-requires
 number-requires c κs = search needs
 
--- src/main.rt:120:16
 slice-aggregate-number-2 : tie.Need-slice-aggregate-number-2
 slice-aggregate-number-2 c = search needs
 
--- src/main.rt:120:9
 number-requires-2 : tie.Need-number-requires-2
 number-requires-2 c κs = search needs
 
--- src/main.rt:121:16
 slice-aggregate-number-3 : tie.Need-slice-aggregate-number-3
 slice-aggregate-number-3 c = search needs
 
--- src/main.rt:121:9
 number-requires-3 : tie.Need-number-requires-3
 number-requires-3 c κs = search needs
 
--- src/main.rt:122:16
 slice-aggregate-number-4 : tie.Need-slice-aggregate-number-4
 slice-aggregate-number-4 c = search needs
 
--- src/main.rt:122:9
 number-requires-4 : tie.Need-number-requires-4
 number-requires-4 c κs = search needs
 
--- src/main.rt:123:16
 slice-aggregate-number-5 : tie.Need-slice-aggregate-number-5
 slice-aggregate-number-5 c = search needs
 
--- src/main.rt:123:9
 number-requires-5 : tie.Need-number-requires-5
 number-requires-5 c κs = search needs
 
--- src/main.rt:125:9
 digester-requires : tie.Need-digester-requires
 digester-requires c κs = search needs
 
--- src/main.rt:127:22
 slice-aggregate-write-all : tie.Need-slice-aggregate-write-all
 slice-aggregate-write-all c = search needs
 
--- src/main.rt:127:5
 write-all-requires : tie.Need-write-all-requires
 write-all-requires c κs = search needs
 
--- src/main.rt:114:1
 returns : tie.Need-returns
 returns c = search needs
 

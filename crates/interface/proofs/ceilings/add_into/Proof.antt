@@ -1,3 +1,4 @@
+-- `interface::ceilings::add_into` meets its contract. Assumes nothing.
 use mathlib.Core.Path.{sym}
 use Prim.Native.Nat.{_-_}
 use lib.ListN.{length}
@@ -6,8 +7,6 @@ use Rattle.interface.proofs.Laws.Columns.{Filled, filled-none, filled-a
 use borrow.Author.Needs.{needs}
 use Rattle.interface.proofs.ceilings.add_into.Statement.{statement}
 use Rattle.interface.proofs.ceilings.add_into.Tie as tie
-use Rattle.interface.proofs.ceilings.add_into.Reads as reads
-use Rattle.interface.proofs.ceilings.add_into.Lts as lts
 
 abbrev Inv-loop : tie.InvT-loop
 Inv-loop dst₀ src i₀ dst i = Filled (added dst₀ src) dst₀ dst i
@@ -15,58 +14,45 @@ Inv-loop dst₀ src i₀ dst i = Filled (added dst₀ src) dst₀ dst i
 abbrev μ-loop : tie.MeasureT-loop
 μ-loop dst₀ src i₀ dst i = length dst₀ - i
 
--- src/ceilings.rt:147:5
 loop-holds : tie.Need-loop-holds Inv-loop μ-loop
 loop-holds c = filled-none _ _ (added-length (c .args .dst .now) (c .args .src .now) (c .pre .0))
 
--- src/ceilings.rt:148:17
 mul-x : tie.Need-mul-x Inv-loop μ-loop
 mul-x c = search needs
 
--- src/ceilings.rt:148:17
 slice-read-x : tie.Need-slice-read-x Inv-loop μ-loop
 slice-read-x c = search needs
 
--- src/ceilings.rt:149:22
 mul-dst : tie.Need-mul-dst Inv-loop μ-loop
 mul-dst c = search needs
 
--- src/ceilings.rt:149:22
 shared-slice-read-dst : tie.Need-shared-slice-read-dst Inv-loop μ-loop
 shared-slice-read-dst c = search needs
 
--- src/ceilings.rt:149:18
 add-dst : tie.Need-add-dst Inv-loop μ-loop
 add-dst c = let l = c .before .before .before .loop in record { fits = rw (filled-at (l .inv) (search needs)) (c .before .before .before .before .pre .1 (l .i)) }
 
--- src/ceilings.rt:149:9
 mul-dst-2 : tie.Need-mul-dst-2 Inv-loop μ-loop
 mul-dst-2 c = search needs
 
--- src/ceilings.rt:149:9
 slice-write-dst : tie.Need-slice-write-dst Inv-loop μ-loop
 slice-write-dst c = search needs
 
--- src/ceilings.rt:150:9
 add-i : tie.Need-add-i Inv-loop μ-loop
 add-i c = search needs
 
--- src/ceilings.rt:147:5
 loop-less : tie.Need-loop-less Inv-loop μ-loop
 loop-less c = search needs
 
--- src/ceilings.rt:147:5
 loop-again : tie.Need-loop-again Inv-loop μ-loop
 loop-again c =
     let l = c .before .before .before .loop in
     let a = c .before .before .before .before .args in
     filled-more _ (l .inv) (search needs) (rw (filled-at (l .inv) (search needs)) (sym (added-column (a .dst .now) (a .src .now) (l .i))))
 
--- src/ceilings.rt:141:1
 same-length : tie.Need-same-length Inv-loop μ-loop
 same-length c = search needs
 
--- src/ceilings.rt:141:1
 returns : tie.Need-returns Inv-loop μ-loop
 returns c = filled-all (c .before .loop .inv) (search needs)
 

@@ -1,13 +1,12 @@
+-- `interface::ceilings::all_within` meets its contract. Assumes nothing.
 use mathlib.Core.Path.{_≡_, sym, _∙_}
-use Prim.Native.Nat.{_+_, _-_, _≤_}
+use Prim.Native.Nat.{_-_, _≤_}
 use lib.ListN.{length, drop}
 use Rattle.interface.specs.Columns.{within}
 use Rattle.interface.proofs.Laws.Columns.{within-above, within-step, within-end}
 use borrow.Author.Needs.{needs}
 use Rattle.interface.proofs.ceilings.all_within.Statement.{statement}
 use Rattle.interface.proofs.ceilings.all_within.Tie as tie
-use Rattle.interface.proofs.ceilings.all_within.Reads as reads
-use Rattle.interface.proofs.ceilings.all_within.Lts as lts
 
 abbrev Inv-loop : tie.InvT-loop
 Inv-loop v ceilings i₀ i = (within ceilings v ≡ within (drop i ceilings) (drop i v)) × (i ≤ length v)
@@ -15,43 +14,33 @@ Inv-loop v ceilings i₀ i = (within ceilings v ≡ within (drop i ceilings) (dr
 abbrev μ-loop : tie.MeasureT-loop
 μ-loop v ceilings i₀ i = length v - i
 
--- src/ceilings.rt:111:5
 loop-holds : tie.Need-loop-holds Inv-loop μ-loop
 loop-holds c = search needs
 
--- src/ceilings.rt:112:12
 mul-if1 : tie.Need-mul-if1 Inv-loop μ-loop
 mul-if1 c = search needs
 
--- src/ceilings.rt:112:12
 shared-slice-read-if1 : tie.Need-shared-slice-read-if1 Inv-loop μ-loop
 shared-slice-read-if1 c = search needs
 
--- src/ceilings.rt:112:26
 mul-if1-2 : tie.Need-mul-if1-2 Inv-loop μ-loop
 mul-if1-2 c = search needs
 
--- src/ceilings.rt:112:26
 shared-slice-read-if1-2 : tie.Need-shared-slice-read-if1-2 Inv-loop μ-loop
 shared-slice-read-if1-2 c = search needs
 
--- src/ceilings.rt:113:13
 returns : tie.Need-returns Inv-loop μ-loop
 returns c = sym (within-above _ _ _ (c .if1 .taken))
 
--- src/ceilings.rt:115:9
 add-i : tie.Need-add-i Inv-loop μ-loop
 add-i c = search needs
 
--- src/ceilings.rt:111:5
 loop-less : tie.Need-loop-less Inv-loop μ-loop
 loop-less c = search needs
 
--- src/ceilings.rt:111:5
 loop-again : tie.Need-loop-again Inv-loop μ-loop
 loop-again c = let l = c .before .before .before .before .loop in (l .inv .0 ∙ within-step _ _ (l .i) (c .before .before .before .before .before .pre) (search needs) (c .if1 .left), search needs)
 
--- src/ceilings.rt:106:1
 returns-2 : tie.Need-returns-2 Inv-loop μ-loop
 returns-2 c = sym (c .before .loop .inv .0 ∙ within-end _ _ _ (c .loop-test .left))
 

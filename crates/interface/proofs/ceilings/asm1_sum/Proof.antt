@@ -1,26 +1,20 @@
+-- `interface::ceilings::asm1_sum` meets its contract. Assumes nothing.
 use lib.Dec.{lit<}
 use Rattle.interface.specs.Columns.{asm1Ceilings}
 use Rattle.interface.proofs.Laws.Columns.{added-fits}
 use borrow.Author.Needs.{needs}
 use Rattle.interface.proofs.ceilings.asm1_sum.Statement.{statement}
 use Rattle.interface.proofs.ceilings.asm1_sum.Tie as tie
-use Rattle.interface.proofs.ceilings.asm1_sum.Reads as reads
-use Rattle.interface.proofs.ceilings.asm1_sum.Lts as lts
-use Rattle.interface.proofs.ceilings.add_into.Reads as add-into-reads
 
--- src/ceilings.rt:92:14
 slice-aggregate-add-into : tie.Need-slice-aggregate-add-into
 slice-aggregate-add-into c = search needs
 
--- src/ceilings.rt:92:22
 slice-aggregate-add-into-2 : tie.Need-slice-aggregate-add-into-2
 slice-aggregate-add-into-2 c = search needs
 
--- src/ceilings.rt:92:5
 add-into-requires : tie.Need-add-into-requires
 add-into-requires c κs = (search needs, added-fits asm1Ceilings _ _ (lit< tt) (c .before .before .pre))
 
--- src/ceilings.rt:87:1
 returns : tie.Need-returns
 returns c = search needs
 

@@ -1,5 +1,6 @@
+-- `interface::ceilings::sum_within` meets its contract. Assumes nothing.
 use mathlib.Core.Path.{_≡_, sym, _∙_}
-use Prim.Native.Nat.{_+_, _-_, _≤_}
+use Prim.Native.Nat.{_-_, _≤_}
 use lib.ListN.{length, drop}
 use native.Mathlib.Omega.{arith}
 use Rattle.interface.specs.Columns.{within, added}
@@ -7,8 +8,6 @@ use Rattle.interface.proofs.Laws.Columns.{within-above, within-step, wi
 use borrow.Author.Needs.{needs}
 use Rattle.interface.proofs.ceilings.sum_within.Statement.{statement}
 use Rattle.interface.proofs.ceilings.sum_within.Tie as tie
-use Rattle.interface.proofs.ceilings.sum_within.Reads as reads
-use Rattle.interface.proofs.ceilings.sum_within.Lts as lts
 
 abbrev Inv-loop : tie.InvT-loop
 Inv-loop a b ceilings i₀ i = (within ceilings (added a b) ≡ within (drop i ceilings) (drop i (added a b))) × (i ≤ length a)
@@ -16,51 +15,39 @@ Inv-loop a b ceilings i₀ i = (within ceilings (added a b) ≡ within (drop i c
 abbrev μ-loop : tie.MeasureT-loop
 μ-loop a b ceilings i₀ i = length a - i
 
--- src/ceilings.rt:126:5
 loop-holds : tie.Need-loop-holds Inv-loop μ-loop
 loop-holds c = search needs
 
--- src/ceilings.rt:127:17
 mul-c : tie.Need-mul-c Inv-loop μ-loop
 mul-c c = search needs
 
--- src/ceilings.rt:127:17
 shared-slice-read-c : tie.Need-shared-slice-read-c Inv-loop μ-loop
 shared-slice-read-c c = search needs
 
--- src/ceilings.rt:128:17
 mul-x : tie.Need-mul-x Inv-loop μ-loop
 mul-x c = search needs
 
--- src/ceilings.rt:128:17
 shared-slice-read-x : tie.Need-shared-slice-read-x Inv-loop μ-loop
 shared-slice-read-x c = search needs
 
--- src/ceilings.rt:129:17
 mul-y : tie.Need-mul-y Inv-loop μ-loop
 mul-y c = search needs
 
--- src/ceilings.rt:129:17
 shared-slice-read-y : tie.Need-shared-slice-read-y Inv-loop μ-loop
 shared-slice-read-y c = search needs
 
--- src/ceilings.rt:131:13
 returns : tie.Need-returns Inv-loop μ-loop
 returns c = sym (within-above _ _ (c .before .before .before .before .before .loop .i) (omega (arith, added-column (c .before .before .before .before .before .before .args .a .now) (c .before .before .before .before .before .before .args .b .now) (c .before .before .before .before .before .loop .i))))
 
--- src/ceilings.rt:134:13
 returns-2 : tie.Need-returns-2 Inv-loop μ-loop
 returns-2 c = sym (within-above _ _ (c .before .before .before .before .before .before .loop .i) (omega (arith, added-column (c .before .before .before .before .before .before .before .args .a .now) (c .before .before .before .before .before .before .before .args .b .now) (c .before .before .before .before .before .before .loop .i))))
 
--- src/ceilings.rt:136:9
 add-i : tie.Need-add-i Inv-loop μ-loop
 add-i c = search needs
 
--- src/ceilings.rt:126:5
 loop-less : tie.Need-loop-less Inv-loop μ-loop
 loop-less c = search needs
 
--- src/ceilings.rt:126:5
 loop-again : tie.Need-loop-again Inv-loop μ-loop
 loop-again c =
     let a = c .before .before .before .before .before .before .before .args in
@@ -69,7 +56,6 @@ loop-again c =
     let n = added-length (a .a .now) (a .b .now) (p .1 ∙ sym (p .0)) in
     (l .inv .0 ∙ within-step _ _ (l .i) (n ∙ p .0) (omega arith) (omega (arith, added-column (c .before .before .before .before .before .before .before .args .a .now) (c .before .before .before .before .before .before .before .args .b .now) (c .before .before .before .before .before .before .loop .i))), search needs)
 
--- src/ceilings.rt:121:1
 returns-3 : tie.Need-returns-3 Inv-loop μ-loop
 returns-3 c =
     let a = c .before .before .args in

@@ -1,22 +1,17 @@
+-- `interface::draw::digester_drawn` meets its contract. Assumes nothing.
 use lib.Dec.{lit<}
 use Rattle.interface.specs.Columns.{digesterCeilings}
 use Rattle.interface.proofs.Laws.Draw.{drawn-fits}
 use borrow.Author.Needs.{needs}
 use Rattle.interface.proofs.draw.digester_drawn.Statement.{statement}
 use Rattle.interface.proofs.draw.digester_drawn.Tie as tie
-use Rattle.interface.proofs.draw.digester_drawn.Reads as reads
-use Rattle.interface.proofs.draw.digester_drawn.Lts as lts
-use Rattle.interface.proofs.draw.take_part.Reads as take-part-reads
 
--- src/draw.rt:35:15
 slice-aggregate-take-part : tie.Need-slice-aggregate-take-part
 slice-aggregate-take-part c = search needs
 
--- src/draw.rt:35:5
 take-part-requires : tie.Need-take-part-requires
 take-part-requires c κs = drawn-fits digesterCeilings _ _ (lit< tt) (c .before .pre .0) (c .before .pre .1)
 
--- src/draw.rt:30:1
 returns : tie.Need-returns
 returns c = search needs
 

@@ -1,3 +1,4 @@
+-- `interface::draw::keep_rest` meets its contract. Assumes nothing.
 use Prim.Native.Nat.{_-_}
 use lib.ListN.{length, length-map}
 use Rattle.interface.specs.Draw.{rest, remainder}
@@ -6,8 +7,6 @@ use Rattle.interface.proofs.Laws.Draw.{mapped-more, part-le}
 use borrow.Author.Needs.{needs}
 use Rattle.interface.proofs.draw.keep_rest.Statement.{statement}
 use Rattle.interface.proofs.draw.keep_rest.Tie as tie
-use Rattle.interface.proofs.draw.keep_rest.Reads as reads
-use Rattle.interface.proofs.draw.keep_rest.Lts as lts
 
 abbrev Inv-loop : tie.InvT-loop
 Inv-loop v₀ k i₀ v i = Filled (rest k v₀) v₀ v i
@@ -15,51 +14,39 @@ Inv-loop v₀ k i₀ v i = Filled (rest k v₀) v₀ v i
 abbrev μ-loop : tie.MeasureT-loop
 μ-loop v₀ k i₀ v i = length v₀ - i
 
--- src/draw.rt:66:5
 loop-holds : tie.Need-loop-holds Inv-loop μ-loop
 loop-holds c = filled-none _ _ (length-map (c .args .v .now) (remainder (c .args .k)))
 
--- src/draw.rt:67:17
 mul-x : tie.Need-mul-x Inv-loop μ-loop
 mul-x c = search needs
 
--- src/draw.rt:67:17
 slice-read-x : tie.Need-slice-read-x Inv-loop μ-loop
 slice-read-x c = search needs
 
--- src/draw.rt:68:20
 mul-v : tie.Need-mul-v Inv-loop μ-loop
 mul-v c = let l = c .before .before .loop in record { fits = rw (filled-at (l .inv) (search needs)) (c .before .before .before .pre .0 (l .i)) }
 
--- src/draw.rt:68:16
 sub-v : tie.Need-sub-v Inv-loop μ-loop
 sub-v c = part-le _ _ (c .before .before .before .pre .1)
 
--- src/draw.rt:68:9
 mul-v-2 : tie.Need-mul-v-2 Inv-loop μ-loop
 mul-v-2 c = search needs
 
--- src/draw.rt:68:9
 slice-write-v : tie.Need-slice-write-v Inv-loop μ-loop
 slice-write-v c = search needs
 
--- src/draw.rt:69:9
 add-i : tie.Need-add-i Inv-loop μ-loop
 add-i c = search needs
 
--- src/draw.rt:66:5
 loop-less : tie.Need-loop-less Inv-loop μ-loop
 loop-less c = search needs
 
--- src/draw.rt:66:5
 loop-again : tie.Need-loop-again Inv-loop μ-loop
 loop-again c = mapped-more (remainder (c .before .before .before .args .k)) (c .before .before .loop .inv) (search needs)
 
--- src/draw.rt:61:1
 same-length : tie.Need-same-length Inv-loop μ-loop
 same-length c = search needs
 
--- src/draw.rt:61:1
 returns : tie.Need-returns Inv-loop μ-loop
 returns c = filled-all (c .before .loop .inv) (search needs)
 

@@ -1,3 +1,4 @@
+-- `interface::draw::take_part` meets its contract. Assumes nothing.
 use Prim.Native.Nat.{_-_}
 use lib.ListN.{length, length-map}
 use Rattle.interface.specs.Draw.{drawn, part}
@@ -6,8 +7,6 @@ use Rattle.interface.proofs.Laws.Draw.{mapped-more}
 use borrow.Author.Needs.{needs}
 use Rattle.interface.proofs.draw.take_part.Statement.{statement}
 use Rattle.interface.proofs.draw.take_part.Tie as tie
-use Rattle.interface.proofs.draw.take_part.Reads as reads
-use Rattle.interface.proofs.draw.take_part.Lts as lts
 
 abbrev Inv-loop : tie.InvT-loop
 Inv-loop v₀ k i₀ v i = Filled (drawn k v₀) v₀ v i
@@ -15,47 +14,36 @@ Inv-loop v₀ k i₀ v i = Filled (drawn k v₀) v₀ v i
 abbrev μ-loop : tie.MeasureT-loop
 μ-loop v₀ k i₀ v i = length v₀ - i
 
--- src/draw.rt:54:5
 loop-holds : tie.Need-loop-holds Inv-loop μ-loop
 loop-holds c = filled-none _ _ (length-map (c .args .v .now) (part (c .args .k)))
 
--- src/draw.rt:55:17
 mul-x : tie.Need-mul-x Inv-loop μ-loop
 mul-x c = search needs
 
--- src/draw.rt:55:17
 slice-read-x : tie.Need-slice-read-x Inv-loop μ-loop
 slice-read-x c = search needs
 
--- src/draw.rt:56:16
 mul-v : tie.Need-mul-v Inv-loop μ-loop
 mul-v c = let l = c .before .before .loop in record { fits = rw (filled-at (l .inv) (search needs)) (c .before .before .before .pre (l .i)) }
 
--- src/draw.rt:56:9
 mul-v-2 : tie.Need-mul-v-2 Inv-loop μ-loop
 mul-v-2 c = search needs
 
--- src/draw.rt:56:9
 slice-write-v : tie.Need-slice-write-v Inv-loop μ-loop
 slice-write-v c = search needs
 
--- src/draw.rt:57:9
 add-i : tie.Need-add-i Inv-loop μ-loop
 add-i c = search needs
 
--- src/draw.rt:54:5
 loop-less : tie.Need-loop-less Inv-loop μ-loop
 loop-less c = search needs
 
--- src/draw.rt:54:5
 loop-again : tie.Need-loop-again Inv-loop μ-loop
 loop-again c = mapped-more (part (c .before .before .before .args .k)) (c .before .before .loop .inv) (search needs)
 
--- src/draw.rt:49:1
 same-length : tie.Need-same-length Inv-loop μ-loop
 same-length c = search needs
 
--- src/draw.rt:49:1
 returns : tie.Need-returns Inv-loop μ-loop
 returns c = filled-all (c .before .loop .inv) (search needs)
 

@@ -1,23 +1,17 @@
+-- `interface::feed::acids_of` meets its contract. Assumes nothing.
 use Rattle.interface.specs.Units.{asm1Counts}
 use Rattle.interface.proofs.Laws.Feed.{stage2-is}
 use native.Mathlib.Omega.{arith}
 use borrow.Author.Needs.{needs}
 use Rattle.interface.proofs.feed.acids_of.Statement.{statement}
 use Rattle.interface.proofs.feed.acids_of.Tie as tie
-use Rattle.interface.proofs.feed.acids_of.Reads as reads
-use Rattle.interface.proofs.feed.acids_of.Lts as lts
-use Rattle.interface.proofs.units.Milligrams.less.Reads as less-reads
-use Rattle.interface.proofs.units.afforded.Reads as afforded-reads
 
--- src/feed.rt:125:9
 afforded-requires : tie.Need-afforded-requires
 afforded-requires c κs = search needs
 
--- src/feed.rt:128:14
 less-requires : tie.Need-less-requires
 less-requires c κs = search needs
 
--- src/feed.rt:121:1
 returns : tie.Need-returns
 returns c =
     let held = c .before .before .pre .1 .1 in

@@ -1,9 +1,7 @@
+-- `interface::feed::fed_vector` meets its contract. Assumes nothing.
 use Rattle.interface.proofs.feed.fed_vector.Statement.{statement}
 use Rattle.interface.proofs.feed.fed_vector.Tie as tie
-use Rattle.interface.proofs.feed.fed_vector.Reads as reads
-use Rattle.interface.proofs.feed.fed_vector.Lts as lts
 
--- src/feed.rt:246:1
 returns : tie.Need-returns
 returns c =
     let v = c .before .before .before .before .before .before .before .before .before .before .before .args .v in

@@ -1,3 +1,4 @@
+-- `interface::feed::left_of` meets its contract. Assumes nothing.
 use mathlib.Core.Path.{refl}
 use Rattle.interface.proofs.Laws.Units.{minus}
 use Rattle.interface.proofs.Laws.Feed.{warn-is}
@@ -6,53 +7,37 @@ use Rattle.interface.specs.Feed.{stage1}
 use borrow.Author.Needs.{needs}
 use Rattle.interface.proofs.feed.left_of.Statement.{statement}
 use Rattle.interface.proofs.feed.left_of.Tie as tie
-use Rattle.interface.proofs.feed.left_of.Reads as reads
-use Rattle.interface.proofs.feed.left_of.Lts as lts
-use Rattle.interface.proofs.feed.warn_of.Reads as warn-of-reads
-use Rattle.interface.proofs.units.Milligrams.less.Reads as units-Milligrams-less-reads
-use Rattle.interface.proofs.units.Ticks.less.Reads as units-Ticks-less-reads
 
--- src/feed.rt:87:9
 less-requires : tie.Need-less-requires
 less-requires c κs = search needs
 
--- src/feed.rt:88:9
 less-requires-2 : tie.Need-less-requires-2
 less-requires-2 c κs = search needs
 
--- src/feed.rt:89:9
 less-requires-3 : tie.Need-less-requires-3
 less-requires-3 c κs = search needs
 
--- src/feed.rt:90:9
 less-requires-4 : tie.Need-less-requires-4
 less-requires-4 c κs = search needs
 
--- src/feed.rt:91:9
 less-requires-5 : tie.Need-less-requires-5
 less-requires-5 c κs = search needs
 
--- src/feed.rt:93:13
 less-requires-6 : tie.Need-less-requires-6
 less-requires-6 c κs = search needs
 
--- src/feed.rt:94:13
 less-requires-7 : tie.Need-less-requires-7
 less-requires-7 c κs = search needs
 
--- src/feed.rt:95:14
 less-requires-8 : tie.Need-less-requires-8
 less-requires-8 c κs = search needs
 
--- src/feed.rt:96:14
 less-requires-9 : tie.Need-less-requires-9
 less-requires-9 c κs = search needs
 
--- src/feed.rt:99:15
 warn-of-requires : tie.Need-warn-of-requires
 warn-of-requires c κs = search needs
 
--- src/feed.rt:83:1
 returns : tie.Need-returns
 unfolding stage1
 returns c =

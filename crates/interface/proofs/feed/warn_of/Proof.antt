@@ -1,19 +1,14 @@
+-- `interface::feed::warn_of` meets its contract. Assumes nothing.
 use borrow.Author.Tests.{eq-eqb, ne-eqb}
-use mathlib.Core.Bool.{and-false}
 use Rattle.interface.proofs.feed.warn_of.Statement.{statement}
 use Rattle.interface.proofs.feed.warn_of.Tie as tie
-use Rattle.interface.proofs.feed.warn_of.Reads as reads
-use Rattle.interface.proofs.feed.warn_of.Lts as lts
 
--- src/feed.rt:109:13
 returns : tie.Need-returns
 returns c = rw (eq-eqb _ _ (c .before .before .if1 .taken), eq-eqb _ _ (c .if2 .taken))
 
--- src/feed.rt:104:1
 returns-2 : tie.Need-returns-2
 returns-2 c = rw (eq-eqb _ _ (c .before .before .if1 .taken), ne-eqb _ _ (c .if2 .left))
 
--- src/feed.rt:104:1
 returns-3 : tie.Need-returns-3
 returns-3 c = rw (ne-eqb _ _ (c .if1 .left))
 

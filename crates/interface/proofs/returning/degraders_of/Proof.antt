@@ -1,34 +1,26 @@
+-- `interface::returning::degraders_of` meets its contract. Assumes nothing.
 use native.Mathlib.Omega.{arith}
 use Rattle.interface.proofs.returning.degraders_of.Statement.{statement}
 use Rattle.interface.proofs.returning.degraders_of.Tie as tie
-use Rattle.interface.proofs.returning.degraders_of.Reads as reads
-use Rattle.interface.proofs.returning.degraders_of.Lts as lts
 
--- src/returning.rt:116:16
 add-t2 : tie.Need-add-t2
 add-t2 c = omega (arith, c .before .pre)
 
--- src/returning.rt:116:16
 add-t3 : tie.Need-add-t3
 add-t3 c = omega (arith, c .before .before .pre)
 
--- src/returning.rt:116:16
 add-t4 : tie.Need-add-t4
 add-t4 c = omega (arith, c .before .before .before .pre)
 
--- src/returning.rt:116:16
 add-t5 : tie.Need-add-t5
 add-t5 c = omega (arith, c .before .before .before .before .pre)
 
--- src/returning.rt:116:16
 add-t6 : tie.Need-add-t6
 add-t6 c = omega (arith, c .before .before .before .before .before .pre)
 
--- src/returning.rt:116:16
 add-t7 : tie.Need-add-t7
 add-t7 c = omega (arith, c .before .before .before .before .before .before .pre)
 
--- src/returning.rt:112:1
 returns : tie.Need-returns
 returns c = omega (arith, c .before .before .before .before .before .before .pre)
 

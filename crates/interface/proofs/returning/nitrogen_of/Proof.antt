@@ -1,59 +1,44 @@
+-- `interface::returning::nitrogen_of` meets its contract. Assumes nothing.
 use native.Mathlib.Omega.{arith}
 use mathlib.Core.Path.{ap, _∙_}
 use Prim.Native.Nat.{ℕ, _+_, _*_}
 use borrow.Author.Needs.{needs}
 use Rattle.interface.proofs.returning.nitrogen_of.Statement.{statement}
 use Rattle.interface.proofs.returning.nitrogen_of.Tie as tie
-use Rattle.interface.proofs.returning.nitrogen_of.Reads as reads
-use Rattle.interface.proofs.returning.nitrogen_of.Lts as lts
-use Rattle.interface.proofs.returning.degraders_of.Reads as degraders-of-reads
-use Rattle.interface.proofs.units.nitrogen.Reads as nitrogen-reads
 
--- src/returning.rt:97:9
 nitrogen-requires : tie.Need-nitrogen-requires
 nitrogen-requires c κs = omega (arith, c .pre)
 
--- src/returning.rt:98:9
 nitrogen-requires-2 : tie.Need-nitrogen-requires-2
 nitrogen-requires-2 c κs = omega (arith, c .before .pre)
 
--- src/returning.rt:99:36
 degraders-of-requires : tie.Need-degraders-of-requires
 degraders-of-requires c κs = search needs
 
--- src/returning.rt:99:9
 nitrogen-requires-3 : tie.Need-nitrogen-requires-3
 nitrogen-requires-3 c κs = search needs
 
--- src/returning.rt:100:9
 nitrogen-requires-4 : tie.Need-nitrogen-requires-4
 nitrogen-requires-4 c κs = omega (arith, c .before .before .before .before .pre)
 
--- src/returning.rt:101:9
 nitrogen-requires-5 : tie.Need-nitrogen-requires-5
 nitrogen-requires-5 c κs = search needs
 
--- src/returning.rt:102:9
 nitrogen-requires-6 : tie.Need-nitrogen-requires-6
 nitrogen-requires-6 c κs = search needs
 
--- src/returning.rt:105:20
 add-t11 : tie.Need-add-t11
 add-t11 c = omega (arith, c .before .before .before .before .before .before .before .before .before .before .pre, c .before .before .before .before .before .before .before .before .before .nitrogen .ensures .1, c .before .before .before .before .before .before .before .before .nitrogen2 .ensures .1, c .before .before .before .before .before .before .nitrogen3 .ensures .1, c .before .before .before .before .before .nitrogen4 .ensures .1, c .before .before .before .before .before .before .before .degraders-of .ensures .1)
 
--- src/returning.rt:105:20
 add-t12 : tie.Need-add-t12
 add-t12 c = omega (arith, c .before .before .before .before .before .before .before .before .before .before .before .pre, c .before .before .before .before .before .before .before .before .before .before .nitrogen .ensures .1, c .before .before .before .before .before .before .before .before .before .nitrogen2 .ensures .1, c .before .before .before .before .before .before .before .nitrogen3 .ensures .1, c .before .before .before .before .before .before .nitrogen4 .ensures .1, c .before .before .before .before .before .before .before .before .degraders-of .ensures .1)
 
--- src/returning.rt:105:20
 add-t13 : tie.Need-add-t13
 add-t13 c = omega (arith, c .before .before .before .before .before .before .before .before .before .before .before .before .pre, c .before .before .before .before .before .before .before .before .before .before .before .nitrogen .ensures .1, c .before .before .before .before .before .before .before .before .before .before .nitrogen2 .ensures .1, c .before .before .before .before .before .before .before .before .nitrogen3 .ensures .1, c .before .before .before .before .before .before .before .nitrogen4 .ensures .1, c .before .before .before .before .before .before .before .before .before .degraders-of .ensures .1)
 
--- src/returning.rt:106:20
 add-t15 : tie.Need-add-t15
 add-t15 c = omega (arith, c .before .before .before .before .before .before .before .before .before .before .before .before .before .before .pre, c .before .before .before .before .before .before .before .before .nitrogen5 .ensures .1, c .before .before .before .before .before .before .before .nitrogen6 .ensures .1)
 
--- src/returning.rt:93:1
 returns : tie.Need-returns
 returns c =
     let f = c .before .before .before .before .before .before .before .before .before .before .before .before .before .before .args .f in

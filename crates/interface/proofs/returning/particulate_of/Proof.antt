@@ -1,32 +1,24 @@
+-- `interface::returning::particulate_of` meets its contract. Assumes nothing.
 use native.Mathlib.Omega.{arith}
 use borrow.Author.Needs.{needs}
 use Rattle.interface.proofs.returning.particulate_of.Statement.{statement}
 use Rattle.interface.proofs.returning.particulate_of.Tie as tie
-use Rattle.interface.proofs.returning.particulate_of.Reads as reads
-use Rattle.interface.proofs.returning.particulate_of.Lts as lts
-use Rattle.interface.proofs.returning.degraders_of.Reads as degraders-of-reads
 
--- src/returning.rt:132:16
 add-t2 : tie.Need-add-t2
 add-t2 c = omega (arith, c .before .pre)
 
--- src/returning.rt:132:16
 add-t3 : tie.Need-add-t3
 add-t3 c = omega (arith, c .before .before .pre)
 
--- src/returning.rt:132:16
 add-t4 : tie.Need-add-t4
 add-t4 c = omega (arith, c .before .before .before .pre)
 
--- src/returning.rt:132:55
 degraders-of-requires : tie.Need-degraders-of-requires
 degraders-of-requires c κs = search needs
 
--- src/returning.rt:132:16
 add-t6 : tie.Need-add-t6
 add-t6 c = omega (arith, c .before .before .before .before .before .pre, c .before .degraders-of .ensures .1)
 
--- src/returning.rt:128:1
 returns : tie.Need-returns
 returns c = search needs
 

@@ -1,23 +1,17 @@
+-- `interface::returning::return_of` meets its contract. Assumes nothing.
 use mathlib.Core.Path.{ap, _∙_}
 use Rattle.interface.specs.Return.{returnDigester}
 use Rattle.interface.proofs.Laws.Return.{low-is}
 use borrow.Author.Needs.{needs}
 use Rattle.interface.proofs.returning.return_of.Statement.{statement}
 use Rattle.interface.proofs.returning.return_of.Tie as tie
-use Rattle.interface.proofs.returning.return_of.Reads as reads
-use Rattle.interface.proofs.returning.return_of.Lts as lts
-use Rattle.interface.proofs.columns.digester_of.Reads as digester-of-reads
-use Rattle.interface.proofs.returning.return_digester.Reads as return-digester-reads
 
--- src/returning.rt:31:24
 digester-of-requires : tie.Need-digester-of-requires
 digester-of-requires c κs = search needs
 
--- src/returning.rt:31:5
 return-digester-requires : tie.Need-return-digester-requires
 return-digester-requires c κs = (c .before .pre .0, low-is (c .before .args .c) (c .digester-of .ensures) (c .before .pre .1))
 
--- src/returning.rt:27:1
 returns : tie.Need-returns
 returns c = c .return-digester .ensures ∙ ap (returnDigester (c .before .before .args .f)) (c .before .digester-of .ensures)
 

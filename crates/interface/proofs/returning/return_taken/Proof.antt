@@ -1,3 +1,4 @@
+-- `interface::returning::return_taken` meets its contract. Assumes nothing.
 use native.Mathlib.Omega.{arith}
 use mathlib.Core.Path.{ap, _∙_}
 use Rattle.interface.specs.Columns.{asm1Columns}
@@ -6,24 +7,16 @@ use Rattle.interface.specs.Return.{stripped, returnedVector}
 use borrow.Author.Needs.{needs}
 use Rattle.interface.proofs.returning.return_taken.Statement.{statement}
 use Rattle.interface.proofs.returning.return_taken.Tie as tie
-use Rattle.interface.proofs.returning.return_taken.Reads as reads
-use Rattle.interface.proofs.returning.return_taken.Lts as lts
-use Rattle.interface.proofs.columns.asm1_array.Reads as asm1-array-reads
-use Rattle.interface.proofs.returning.returned_vector.Reads as returned-vector-reads
 
--- src/returning.rt:63:9
 returned-vector-requires : tie.Need-returned-vector-requires
 returned-vector-requires c κs = search needs
 
--- src/returning.rt:66:30
 add-t5 : tie.Need-add-t5
 add-t5 c = omega (arith, c .before .before .pre .0)
 
--- src/returning.rt:67:17
 asm1-array-requires : tie.Need-asm1-array-requires
 asm1-array-requires c κs = search needs
 
--- src/returning.rt:59:1
 returns : tie.Need-returns
 returns c =
     let d = digesterCounts (c .before .before .before .args .d) in

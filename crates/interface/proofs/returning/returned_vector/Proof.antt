@@ -1,20 +1,14 @@
+-- `interface::returning::returned_vector` meets its contract. Assumes nothing.
 use borrow.Author.Needs.{needs}
 use Rattle.interface.proofs.returning.returned_vector.Statement.{statement}
 use Rattle.interface.proofs.returning.returned_vector.Tie as tie
-use Rattle.interface.proofs.returning.returned_vector.Reads as reads
-use Rattle.interface.proofs.returning.returned_vector.Lts as lts
-use Rattle.interface.proofs.returning.particulate_of.Reads as particulate-of-reads
-use Rattle.interface.proofs.returning.soluble_of.Reads as soluble-of-reads
 
--- src/returning.rt:150:13
 soluble-of-requires : tie.Need-soluble-of-requires
 soluble-of-requires c κs = search needs
 
--- src/returning.rt:152:13
 particulate-of-requires : tie.Need-particulate-of-requires
 particulate-of-requires c κs = search needs
 
--- src/returning.rt:136:1
 returns : tie.Need-returns
 returns c =
     let d = c .before .before .before .before .before .before .before .before .before .before .args .d in

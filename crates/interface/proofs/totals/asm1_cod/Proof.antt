@@ -1,26 +1,20 @@
+-- `interface::totals::asm1_cod` meets its contract. Assumes nothing.
 use native.Mathlib.Omega.{arith}
 use mathlib.Core.Path.{sym, _∙_}
 use Rattle.interface.proofs.Laws.Totals.{asm1Cod-weigh, asm1Cod-le}
 use borrow.Author.Needs.{needs}
 use Rattle.interface.proofs.totals.asm1_cod.Statement.{statement}
 use Rattle.interface.proofs.totals.asm1_cod.Tie as tie
-use Rattle.interface.proofs.totals.asm1_cod.Reads as reads
-use Rattle.interface.proofs.totals.asm1_cod.Lts as lts
-use Rattle.interface.proofs.totals.weighed.Reads as weighed-reads
 
--- src/totals.rt:50:24
 slice-aggregate-weighed : tie.Need-slice-aggregate-weighed
 slice-aggregate-weighed c = search needs
 
--- src/totals.rt:50:28
 slice-aggregate-weighed-2 : tie.Need-slice-aggregate-weighed-2
 slice-aggregate-weighed-2 c = search needs
 
--- src/totals.rt:50:16
 weighed-requires : tie.Need-weighed-requires
 weighed-requires c κs = (search needs, omega (arith, asm1Cod-weigh (c .before .before .args .t1), asm1Cod-le (c .before .before .args .t1) (c .before .before .pre)))
 
--- src/totals.rt:45:1
 returns : tie.Need-returns
 returns c = let e = c .weighed .ensures ∙ sym (asm1Cod-weigh (c .before .before .before .args .t1)) in (e, omega (arith, e, asm1Cod-le (c .before .before .before .args .t1) (c .before .before .before .pre)))
 

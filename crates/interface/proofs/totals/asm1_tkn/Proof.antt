@@ -1,3 +1,4 @@
+-- `interface::totals::asm1_tkn` meets its contract. Assumes nothing.
 use native.Mathlib.Omega.{arith}
 use mathlib.Core.Path.{sym, ap, _∙_}
 use mathlib.Core.List.{List}
@@ -7,31 +8,22 @@ use Rattle.interface.proofs.Laws.Totals.{asm1Tkn-weigh, asm1Tkn-le}
 use borrow.Author.Needs.{needs}
 use Rattle.interface.proofs.totals.asm1_tkn.Statement.{statement}
 use Rattle.interface.proofs.totals.asm1_tkn.Tie as tie
-use Rattle.interface.proofs.totals.asm1_tkn.Reads as reads
-use Rattle.interface.proofs.totals.asm1_tkn.Lts as lts
-use Rattle.interface.proofs.totals.asm1_fractions.Reads as asm1-fractions-reads
-use Rattle.interface.proofs.totals.weighed.Reads as weighed-reads
 
--- src/totals.rt:58:13
 asm1-fractions-requires : tie.Need-asm1-fractions-requires
 asm1-fractions-requires c κs = search needs
 
--- src/totals.rt:59:19
 slice-aggregate-weighed : tie.Need-slice-aggregate-weighed
 slice-aggregate-weighed c = search needs
 
--- src/totals.rt:59:23
 slice-aggregate-weighed-2 : tie.Need-slice-aggregate-weighed-2
 slice-aggregate-weighed-2 c = search needs
 
--- src/totals.rt:59:11
 weighed-requires : tie.Need-weighed-requires
 weighed-requires c κs =
     let f = c .before .before .before .args .f in
     let v = c .before .before .before .args .t2 in
     (search needs, rw (c .before .before .asm1-fractions .ensures) (omega (arith, asm1Tkn-weigh f v, asm1Tkn-le f v (c .before .before .before .pre .0) (c .before .before .before .pre .1))))
 
--- src/totals.rt:54:1
 returns : tie.Need-returns
 returns c =
     let f = c .before .before .before .before .args .f in

@@ -1,26 +1,20 @@
+-- `interface::totals::digester_cod` meets its contract. Assumes nothing.
 use native.Mathlib.Omega.{arith}
 use mathlib.Core.Path.{sym, _∙_}
 use Rattle.interface.proofs.Laws.Totals.{digesterCod-weigh, digesterCod-le}
 use borrow.Author.Needs.{needs}
 use Rattle.interface.proofs.totals.digester_cod.Statement.{statement}
 use Rattle.interface.proofs.totals.digester_cod.Tie as tie
-use Rattle.interface.proofs.totals.digester_cod.Reads as reads
-use Rattle.interface.proofs.totals.digester_cod.Lts as lts
-use Rattle.interface.proofs.totals.weighed.Reads as weighed-reads
 
--- src/totals.rt:68:24
 slice-aggregate-weighed : tie.Need-slice-aggregate-weighed
 slice-aggregate-weighed c = search needs
 
--- src/totals.rt:68:28
 slice-aggregate-weighed-2 : tie.Need-slice-aggregate-weighed-2
 slice-aggregate-weighed-2 c = search needs
 
--- src/totals.rt:68:16
 weighed-requires : tie.Need-weighed-requires
 weighed-requires c κs = (search needs, omega (arith, digesterCod-weigh (c .before .before .args .t1), digesterCod-le (c .before .before .args .t1) (c .before .before .pre)))
 
--- src/totals.rt:63:1
 returns : tie.Need-returns
 returns c = let e = c .weighed .ensures ∙ sym (digesterCod-weigh (c .before .before .before .args .t1)) in (e, omega (arith, e, digesterCod-le (c .before .before .before .args .t1) (c .before .before .before .pre)))
 

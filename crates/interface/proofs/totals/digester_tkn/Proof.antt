@@ -1,3 +1,4 @@
+-- `interface::totals::digester_tkn` meets its contract. Assumes nothing.
 use native.Mathlib.Omega.{arith}
 use mathlib.Core.Path.{sym, ap, _∙_}
 use mathlib.Core.List.{List}
@@ -7,31 +8,22 @@ use Rattle.interface.proofs.Laws.Totals.{digesterTkn-weigh, digesterTkn
 use borrow.Author.Needs.{needs}
 use Rattle.interface.proofs.totals.digester_tkn.Statement.{statement}
 use Rattle.interface.proofs.totals.digester_tkn.Tie as tie
-use Rattle.interface.proofs.totals.digester_tkn.Reads as reads
-use Rattle.interface.proofs.totals.digester_tkn.Lts as lts
-use Rattle.interface.proofs.totals.digester_fractions.Reads as digester-fractions-reads
-use Rattle.interface.proofs.totals.weighed.Reads as weighed-reads
 
--- src/totals.rt:76:13
 digester-fractions-requires : tie.Need-digester-fractions-requires
 digester-fractions-requires c κs = search needs
 
--- src/totals.rt:77:19
 slice-aggregate-weighed : tie.Need-slice-aggregate-weighed
 slice-aggregate-weighed c = search needs
 
--- src/totals.rt:77:23
 slice-aggregate-weighed-2 : tie.Need-slice-aggregate-weighed-2
 slice-aggregate-weighed-2 c = search needs
 
--- src/totals.rt:77:11
 weighed-requires : tie.Need-weighed-requires
 weighed-requires c κs =
     let f = c .before .before .before .args .f in
     let v = c .before .before .before .args .t2 in
     (search needs, rw (c .before .before .digester-fractions .ensures) (omega (arith, digesterTkn-weigh f v, digesterTkn-le f v (c .before .before .before .pre .0) (c .before .before .before .pre .1))))
 
--- src/totals.rt:72:1
 returns : tie.Need-returns
 returns c =
     let f = c .before .before .before .before .args .f in

@@ -1,3 +1,4 @@
+-- `interface::totals::weighed` meets its contract. Assumes nothing.
 use mathlib.Core.Path.{_≡_}
 use Prim.Native.Nat.{_+_, _-_, _≤_}
 use lib.ListN.{length, drop}
@@ -7,8 +8,6 @@ use Rattle.interface.proofs.Laws.Totals.{weigh-step, weigh-end}
 use borrow.Author.Needs.{needs}
 use Rattle.interface.proofs.totals.weighed.Statement.{statement}
 use Rattle.interface.proofs.totals.weighed.Tie as tie
-use Rattle.interface.proofs.totals.weighed.Reads as reads
-use Rattle.interface.proofs.totals.weighed.Lts as lts
 
 abbrev Inv-loop : tie.InvT-loop
 Inv-loop w v sum₀ i₀ sum i = (sum + weighFrom i (drop i w) v ≡ weigh w v) × (i ≤ length w)
@@ -16,47 +15,36 @@ Inv-loop w v sum₀ i₀ sum i = (sum + weighFrom i (drop i w) v ≡ weigh w v) 
 abbrev μ-loop : tie.MeasureT-loop
 μ-loop w v sum₀ i₀ sum i = length w - i
 
--- src/totals.rt:127:5
 loop-holds : tie.Need-loop-holds Inv-loop μ-loop
 loop-holds c = search needs
 
--- src/totals.rt:128:16
 mul-sum : tie.Need-mul-sum Inv-loop μ-loop
 mul-sum c = search needs
 
--- src/totals.rt:128:16
 shared-slice-read-sum : tie.Need-shared-slice-read-sum Inv-loop μ-loop
 shared-slice-read-sum c = search needs
 
--- src/totals.rt:128:23
 mul-sum-2 : tie.Need-mul-sum-2 Inv-loop μ-loop
 mul-sum-2 c = search needs
 
--- src/totals.rt:128:23
 shared-slice-read-sum-2 : tie.Need-shared-slice-read-sum-2 Inv-loop μ-loop
 shared-slice-read-sum-2 c = search needs
 
--- src/totals.rt:128:16
 mul-sum-3 : tie.Need-mul-sum-3 Inv-loop μ-loop
 mul-sum-3 c = omega (arith, weigh-step (c .before .before .before .before .args .w .now) (c .before .before .before .before .args .v .now) (c .before .before .before .loop .i) (omega arith))
 
--- src/totals.rt:128:9
 add-sum : tie.Need-add-sum Inv-loop μ-loop
 add-sum c = omega (arith, weigh-step (c .before .before .before .before .args .w .now) (c .before .before .before .before .args .v .now) (c .before .before .before .loop .i) (omega arith))
 
--- src/totals.rt:129:9
 add-i : tie.Need-add-i Inv-loop μ-loop
 add-i c = search needs
 
--- src/totals.rt:127:5
 loop-less : tie.Need-loop-less Inv-loop μ-loop
 loop-less c = search needs
 
--- src/totals.rt:127:5
 loop-again : tie.Need-loop-again Inv-loop μ-loop
 loop-again c = omega (arith, weigh-step (c .before .before .before .before .args .w .now) (c .before .before .before .before .args .v .now) (c .before .before .before .loop .i) (omega arith))
 
--- src/totals.rt:121:1
 returns : tie.Need-returns Inv-loop μ-loop
 returns c = omega (arith, weigh-end (c .before .before .args .w .now) (c .before .before .args .v .now) (c .before .loop .i) (c .before .loop .i) (omega arith))
 

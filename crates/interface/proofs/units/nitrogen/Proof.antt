@@ -1,16 +1,13 @@
+-- `interface::units::nitrogen` meets its contract. Assumes nothing.
 use mathlib.Core.Path.{refl}
 use native.Mathlib.Nat.{mul-le-mul-right}
 use native.Mathlib.Omega.{arith}
 use Rattle.interface.proofs.units.nitrogen.Statement.{statement}
 use Rattle.interface.proofs.units.nitrogen.Tie as tie
-use Rattle.interface.proofs.units.nitrogen.Reads as reads
-use Rattle.interface.proofs.units.nitrogen.Lts as lts
 
--- src/units.rt:52:11
 mul-t3 : tie.Need-mul-t3
 mul-t3 c = omega (arith, mul-le-mul-right (c .before .args .x .0) (c .before .pre .0))
 
--- src/units.rt:48:1
 returns : tie.Need-returns
 returns c = (refl, mul-le-mul-right (c .before .args .x .0) (c .before .pre .0))
 

@@ -1,3 +1,4 @@
+-- `interface::units::share` meets its contract. Assumes nothing.
 use mathlib.Core.Path.{refl}
 use native.Mathlib.Nat.{mul-le-mul-right}
 use native.Mathlib.Omega.{arith}
@@ -5,18 +6,13 @@ use Rattle.interface.proofs.Laws.Units.{share-le}
 use borrow.Author.Needs.{needs}
 use Rattle.interface.proofs.units.share.Statement.{statement}
 use Rattle.interface.proofs.units.share.Tie as tie
-use Rattle.interface.proofs.units.share.Reads as reads
-use Rattle.interface.proofs.units.share.Lts as lts
 
--- src/units.rt:68:16
 mul-t4 : tie.Need-mul-t4
 mul-t4 c = omega (arith, mul-le-mul-right (c .before .args .x .0) (c .before .pre .1 .0))
 
--- src/units.rt:68:16
 div-t5 : tie.Need-div-t5
 div-t5 c = search needs
 
--- src/units.rt:64:1
 returns : tie.Need-returns
 returns c = (refl, share-le (c .before .args .a) (c .before .args .b) (c .before .args .x .0) (c .before .pre .0 .1))
 

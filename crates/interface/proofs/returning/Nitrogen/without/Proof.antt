@@ -1,34 +1,26 @@
+-- `interface::returning::Nitrogen::without` meets its contract. Assumes nothing.
 use mathlib.Core.Path.{refl}
 use Rattle.interface.specs.Return.{taken}
 use Rattle.interface.proofs.Laws.Units.{minus}
 use borrow.Author.Needs.{needs}
 use Rattle.interface.proofs.returning.Nitrogen.without.Statement.{statement}
 use Rattle.interface.proofs.returning.Nitrogen.without.Tie as tie
-use Rattle.interface.proofs.returning.Nitrogen.without.Reads as reads
-use Rattle.interface.proofs.returning.Nitrogen.without.Lts as lts
-use Rattle.interface.proofs.units.Ticks.less.Reads as less-reads
 
--- src/returning.rt:83:13
 less-requires : tie.Need-less-requires
 less-requires c κs = search needs
 
--- src/returning.rt:85:18
 less-requires-2 : tie.Need-less-requires-2
 less-requires-2 c κs = search needs
 
--- src/returning.rt:86:18
 less-requires-3 : tie.Need-less-requires-3
 less-requires-3 c κs = search needs
 
--- src/returning.rt:87:32
 less-requires-4 : tie.Need-less-requires-4
 less-requires-4 c κs = search needs
 
--- src/returning.rt:87:18
 less-requires-5 : tie.Need-less-requires-5
 less-requires-5 c κs = search needs
 
--- src/returning.rt:80:5
 returns : tie.Need-returns
 unfolding taken
 returns c =
