@@ -1,0 +1,140 @@
+-- The five calls: document 01, "The plant record and its five calls". Each is its refusals, in the order in which they are tested, and what it does where none applies.
+--
+--   receive, feed, settle, giveBack, release   the calls; giveBack is 01's return
+--   feedTests, fed, settleTests, ..            parts of them that the code's parts cite
+--   stepBy, step                               any of them, by a request
+--   request, receiving, feeding, ..            the requests
+--
+-- f is the set of figures; the code has the house set.
+use mathlib.Core.Bool.{Bool, _&&_}
+use mathlib.Core.List.{List, [], _∷_}
+use Prim.Native.Nat.{ℕ, _+_}
+use lib.Dec.{eqb}
+use lib.ListN.{replicate}
+use Rattle.interface.specs.declared.figures.Figures.{Figures}
+use Rattle.interface.specs.declared.feed.Fed.{Fed}
+use Rattle.interface.specs.declared.returning.Returned.{Returned}
+use Rattle.interface.specs.declared.units.Milligrams.{Milligrams}
+use Rattle.interface.specs.Columns.{asm1Ceilings, digesterCeilings, within, added}
+use Rattle.interface.specs.Draw.{drawn, rest}
+use Rattle.interface.specs.Totals.{digesterCod, digesterTkn, digesterOxygen, digesterNitrate}
+use Rattle.interface.specs.Feed.{feedOf}
+use Rattle.interface.specs.Return.{returnOf}
+use Rattle.plant.specs.declared.record.Plant.{Plant}
+use Rattle.plant.specs.declared.answer.Answer.the-variants as answer
+use Rattle.plant.specs.declared.answer.Call.{Call}
+use Rattle.plant.specs.declared.answer.Call.the-variants as call
+use Rattle.plant.specs.declared.answer.Request.{Request}
+use Rattle.plant.specs.declared.answer.Outcome.{Outcome}
+use Rattle.plant.specs.Record.{noColumns, recordWithin, thousandths}
+use Rattle.plant.specs.Answer.{unless, first, decide}
+
+-- Receive adds an ASM1 vector to the sludge tank.
+unfoldable pub receive : Plant → List ℕ → Outcome
+receive p v =
+    decide p
+    (first
+    (unless (recordWithin p) 1
+    ∷ unless (within asm1Ceilings v) 3
+    ∷ unless (within asm1Ceilings (added p.sludge v)) 10
+    ∷ []))
+    (record {
+      answer = answer.Received;
+      vector = noColumns;
+      plant = record { sludge = added p.sludge v; digester = p.digester; reject = p.reject };
+    })
+
+-- Feed k draws from sludge, converts, and adds to the digester: what is tested of the conversion's outcome o, its own 4 or 6 first, and what becomes of it, where r stays.
+abbrev pub feedTests : Plant → Fed → List ℕ
+feedTests p o = o .refusal ∷ unless (within digesterCeilings (added p.digester (o .vector))) 10 ∷ []
+
+abbrev pub fed : Plant → Fed → List ℕ → Outcome
+fed p o r =
+    record {
+      answer = answer.Fed (o .burnt) (o .oxygen) (o .nitrate) (o .warn);
+      vector = noColumns;
+      plant = record { sludge = r; digester = added p.digester (o .vector); reject = p.reject };
+    }
+
+unfoldable pub feed : Figures → Plant → ℕ → Outcome
+feed f p k =
+    let o = feedOf f (drawn k p.sludge) in
+    decide p (first (unless (recordWithin p) 1 ∷ unless (thousandths k) 2 ∷ feedTests p o)) (fed p o (rest k p.sludge))
+
+-- Settle takes a digester vector d that the host's solver proposes in the place of old, and a gas COD. sic is free.
+abbrev pub settleTests : Figures → List ℕ → Milligrams → List ℕ → List ℕ
+settleTests f old gas d =
+    unless (eqb (digesterCod old) (digesterCod d + gas .0)) 7
+    ∷ unless (eqb (digesterTkn f old) (digesterTkn f d)) 8
+    ∷ unless (eqb (digesterOxygen old) (digesterOxygen d) && eqb (digesterNitrate old) (digesterNitrate d)) 9
+    ∷ []
+
+unfoldable pub settle : Figures → Plant → Milligrams → List ℕ → Outcome
+settle f p gas d =
+    decide p (first (unless (recordWithin p) 1 ∷ unless (within digesterCeilings d) 3 ∷ settleTests f p.digester gas d))
+    (record {
+      answer = answer.Settled;
+      vector = noColumns;
+      plant = record { sludge = p.sludge; digester = d; reject = p.reject };
+    })
+
+-- Return k draws from the digester, converts, and adds to reject: what is tested of the conversion's outcome o, its own 5 first, and what becomes of it, where r stays.
+abbrev pub returnTests : Plant → Returned → List ℕ
+returnTests p o = o .refusal ∷ unless (within asm1Ceilings (added p.reject (o .vector))) 10 ∷ []
+
+abbrev pub returned : Plant → Returned → List ℕ → Outcome
+returned p o r =
+    record {
+      answer = answer.Returned (o .stripped);
+      vector = noColumns;
+      plant = record { sludge = p.sludge; digester = r; reject = added p.reject (o .vector) };
+    }
+
+unfoldable pub giveBack : Figures → Plant → ℕ → Outcome
+giveBack f p k =
+    let o = returnOf f (drawn k p.digester) in
+    decide p (first (unless (recordWithin p) 1 ∷ unless (thousandths k) 2 ∷ returnTests p o)) (returned p o (rest k p.digester))
+
+-- Release k draws from reject and hands the vector out.
+unfoldable pub release : Plant → ℕ → Outcome
+release p k =
+    decide p (first (unless (recordWithin p) 1 ∷ unless (thousandths k) 2 ∷ []))
+    (record {
+      answer = answer.Released;
+      vector = drawn k p.reject;
+      plant = record { sludge = p.sludge; digester = p.digester; reject = rest k p.reject };
+    })
+
+-- ---- any call
+
+-- a call c, with the vectors v and d that it is handed
+abbrev pub stepBy : Figures → Plant → Call → List ℕ → List ℕ → Outcome
+stepBy f p call.Receive v d = receive p v
+stepBy f p (call.Feed k) v d = feed f p k
+stepBy f p (call.Settle gas) v d = settle f p gas d
+stepBy f p (call.Return k) v d = giveBack f p k
+stepBy f p (call.Release k) v d = release p k
+
+abbrev pub step : Figures → Plant → Request → Outcome
+step f p r = stepBy f p (r .call) (r .sludge) (r .digester)
+
+-- ---- requests
+
+-- a call that is handed no vector
+abbrev pub request : Call → Request
+request c = record { call = c; sludge = noColumns; digester = replicate 26 0 }
+
+abbrev pub receiving : List ℕ → Request
+receiving v = record { call = call.Receive; sludge = v; digester = replicate 26 0 }
+
+abbrev pub feeding : ℕ → Request
+feeding k = request (call.Feed k)
+
+abbrev pub settling : Milligrams → List ℕ → Request
+settling gas d = record { call = call.Settle gas; sludge = noColumns; digester = d }
+
+abbrev pub returning : ℕ → Request
+returning k = request (call.Return k)
+
+abbrev pub releasing : ℕ → Request
+releasing k = request (call.Release k)

@@ -1,0 +1,5 @@
+pub mod Record
+pub mod Answer
+pub mod Calls
+pub mod Balance
+pub mod Held

@@ -1,0 +1,29 @@
+// Any of the five calls, by a request.
+ghost use mathlib.Core.Path.{_≡_};
+ghost use Rattle.interface.specs.Figures.{house};
+ghost use Rattle.plant.specs.Calls.{step};
+use crate::answer::Call;
+use crate::answer::Outcome;
+use crate::answer::Request;
+use crate::feeding::feed;
+use crate::receiving::receive;
+use crate::record::Plant;
+use crate::releasing::release;
+use crate::returning::give_back;
+use crate::settling::settle;
+
+// What the request's call gives on the record.
+pub fn answer_request(plant: Plant, request: Request) -> Outcome
+    ensures { λ r. ⌜ r ≡ step house plant request ⌝ }
+{
+    let call = request.call;
+    let sludge = request.sludge;
+    let digester = request.digester;
+    match call {
+        Call::Receive => receive(plant, sludge),
+        Call::Feed(k) => feed(plant, k),
+        Call::Settle(gas) => settle(plant, gas, digester),
+        Call::Return(k) => give_back(plant, k),
+        Call::Release(k) => release(plant, k),
+    }
+}

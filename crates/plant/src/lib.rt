@@ -1,0 +1,35 @@
+// The plant record: three tanks and the five calls that move columns between them. It knows nothing of text.
+//
+//   record     the record, and whether its columns are within their ceilings
+//   answer     a call, what it answers, and the outcome
+//   receiving  an ASM1 vector into the sludge tank
+//   feeding    sludge to digester
+//   settling   the digester's contents as the host's solver proposes them
+//   returning  digester to reject
+//   releasing  reject handed out
+//   calls      any of the five, by a request
+//   holding    what is in the tanks
+mod answer;
+mod calls;
+mod feeding;
+mod holding;
+mod receiving;
+mod record;
+mod releasing;
+mod returning;
+mod settling;
+
+pub use answer::Answer;
+pub use answer::Call;
+pub use answer::Outcome;
+pub use answer::Request;
+pub use calls::answer_request;
+pub use feeding::feed;
+pub use holding::HeldTotals;
+pub use holding::held;
+pub use receiving::receive;
+pub use record::Plant;
+pub use record::fresh;
+pub use releasing::release;
+pub use returning::give_back;
+pub use settling::settle;

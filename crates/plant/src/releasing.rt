@@ -1,0 +1,37 @@
+// Release draws k thousandths of the reject tank and hands them out.
+ghost use mathlib.Core.Path.{_≡_};
+ghost use Rattle.interface.specs.Figures.{house};
+ghost use Rattle.plant.specs.Calls.{step, releasing};
+use crate::answer::Answer;
+use crate::answer::Outcome;
+use crate::answer::refusal;
+use crate::record::Plant;
+use crate::record::is_thousandths;
+use crate::record::record_within;
+
+// Refusals 1 and 2.
+pub fn release(plant: Plant, k: u64) -> Outcome
+    ensures { λ r. ⌜ r ≡ step house plant (releasing k) ⌝ }
+{
+    if record_within(plant) {
+        if is_thousandths(k) {
+            let reject = plant.reject;
+            let drawn = interface::asm1_drawn(reject, k);
+            let rest = interface::asm1_rest(reject, k);
+            let sludge = plant.sludge;
+            let digester = plant.digester;
+            let next = Plant {
+                sludge: sludge,
+                digester: digester,
+                reject: rest,
+            };
+            return Outcome {
+                answer: Answer::Released,
+                vector: drawn,
+                plant: next,
+            };
+        }
+        return refusal(plant, 2);
+    }
+    refusal(plant, 1)
+}
