@@ -1,13 +1,16 @@
 -- The five calls: document 01, "The plant record and its five calls". Each is its refusals, in the order in which they are tested, and what it does where none applies.
 --
 --   receive, feed, settle, giveBack, release   the calls; giveBack is 01's return
---   feedTests, fed, settleTests, ..            parts of them that the code's parts cite
+--   receiveTests, feedTests, ..                their refusals, in the order in which they are tested
+--   fedTests, fed, settledTests, ..            parts of these that the code's parts cite
 --   stepBy, step                               any of them, by a request
+--   refusalOf, ExactLaw                        the refusal that applies first, and that an answer tells just that
 --   request, receiving, feeding, ..            the requests
 --
 -- f is the set of figures; the code has the house set.
 use mathlib.Core.Bool.{Bool, _&&_}
 use mathlib.Core.List.{List, [], _∷_}
+use mathlib.Core.Path.{_≡_}
 use Prim.Native.Nat.{ℕ, _+_}
 use lib.Dec.{eqb}
 use lib.ListN.{replicate}
@@ -27,17 +30,19 @@ use Rattle.plant.specs.declared.answer.Call.the-variants as call
 use Rattle.plant.specs.declared.answer.Request.{Request}
 use Rattle.plant.specs.declared.answer.Outcome.{Outcome}
 use Rattle.plant.specs.Record.{noColumns, recordWithin, thousandths}
-use Rattle.plant.specs.Answer.{unless, first, decide}
+use Rattle.plant.specs.Answer.{told, unless, first, decide}
 
 -- Receive adds an ASM1 vector to the sludge tank.
-unfoldable pub receive : Plant → List ℕ → Outcome
-receive p v =
-    decide p
-    (first
-    (unless (recordWithin p) 1
+abbrev pub receiveTests : Plant → List ℕ → List ℕ
+receiveTests p v =
+    unless (recordWithin p) 1
     ∷ unless (within asm1Ceilings v) 3
     ∷ unless (within asm1Ceilings (added p.sludge v)) 10
-    ∷ []))
+    ∷ []
+
+unfoldable pub receive : Plant → List ℕ → Outcome
+receive p v =
+    decide p (first (receiveTests p v))
     (record {
       answer = answer.Received;
       vector = noColumns;
@@ -45,8 +50,8 @@ receive p v =
     })
 
 -- Feed k draws from sludge, converts, and adds to the digester: what is tested of the conversion's outcome o, its own 4 or 6 first, and what becomes of it, where r stays.
-abbrev pub feedTests : Plant → Fed → List ℕ
-feedTests p o = o .refusal ∷ unless (within digesterCeilings (added p.digester (o .vector))) 10 ∷ []
+abbrev pub fedTests : Plant → Fed → List ℕ
+fedTests p o = o .refusal ∷ unless (within digesterCeilings (added p.digester (o .vector))) 10 ∷ []
 
 abbrev pub fed : Plant → Fed → List ℕ → Outcome
 fed p o r =
@@ -56,22 +61,26 @@ fed p o r =
       plant = record { sludge = r; digester = added p.digester (o .vector); reject = p.reject };
     }
 
+abbrev pub feedTests : Figures → Plant → ℕ → List ℕ
+feedTests f p k = unless (recordWithin p) 1 ∷ unless (thousandths k) 2 ∷ fedTests p (feedOf f (drawn k p.sludge))
+
 unfoldable pub feed : Figures → Plant → ℕ → Outcome
-feed f p k =
-    let o = feedOf f (drawn k p.sludge) in
-    decide p (first (unless (recordWithin p) 1 ∷ unless (thousandths k) 2 ∷ feedTests p o)) (fed p o (rest k p.sludge))
+feed f p k = decide p (first (feedTests f p k)) (fed p (feedOf f (drawn k p.sludge)) (rest k p.sludge))
 
 -- Settle takes a digester vector d that the host's solver proposes in the place of old, and a gas COD. sic is free.
-abbrev pub settleTests : Figures → List ℕ → Milligrams → List ℕ → List ℕ
-settleTests f old gas d =
+abbrev pub settledTests : Figures → List ℕ → Milligrams → List ℕ → List ℕ
+settledTests f old gas d =
     unless (eqb (digesterCod old) (digesterCod d + gas .0)) 7
     ∷ unless (eqb (digesterTkn f old) (digesterTkn f d)) 8
     ∷ unless (eqb (digesterOxygen old) (digesterOxygen d) && eqb (digesterNitrate old) (digesterNitrate d)) 9
     ∷ []
 
+abbrev pub settleTests : Figures → Plant → Milligrams → List ℕ → List ℕ
+settleTests f p gas d = unless (recordWithin p) 1 ∷ unless (within digesterCeilings d) 3 ∷ settledTests f p.digester gas d
+
 unfoldable pub settle : Figures → Plant → Milligrams → List ℕ → Outcome
 settle f p gas d =
-    decide p (first (unless (recordWithin p) 1 ∷ unless (within digesterCeilings d) 3 ∷ settleTests f p.digester gas d))
+    decide p (first (settleTests f p gas d))
     (record {
       answer = answer.Settled;
       vector = noColumns;
@@ -79,8 +88,8 @@ settle f p gas d =
     })
 
 -- Return k draws from the digester, converts, and adds to reject: what is tested of the conversion's outcome o, its own 5 first, and what becomes of it, where r stays.
-abbrev pub returnTests : Plant → Returned → List ℕ
-returnTests p o = o .refusal ∷ unless (within asm1Ceilings (added p.reject (o .vector))) 10 ∷ []
+abbrev pub returnedTests : Plant → Returned → List ℕ
+returnedTests p o = o .refusal ∷ unless (within asm1Ceilings (added p.reject (o .vector))) 10 ∷ []
 
 abbrev pub returned : Plant → Returned → List ℕ → Outcome
 returned p o r =
@@ -90,15 +99,19 @@ returned p o r =
       plant = record { sludge = p.sludge; digester = r; reject = added p.reject (o .vector) };
     }
 
+abbrev pub returnTests : Figures → Plant → ℕ → List ℕ
+returnTests f p k = unless (recordWithin p) 1 ∷ unless (thousandths k) 2 ∷ returnedTests p (returnOf f (drawn k p.digester))
+
 unfoldable pub giveBack : Figures → Plant → ℕ → Outcome
-giveBack f p k =
-    let o = returnOf f (drawn k p.digester) in
-    decide p (first (unless (recordWithin p) 1 ∷ unless (thousandths k) 2 ∷ returnTests p o)) (returned p o (rest k p.digester))
+giveBack f p k = decide p (first (returnTests f p k)) (returned p (returnOf f (drawn k p.digester)) (rest k p.digester))
 
 -- Release k draws from reject and hands the vector out.
+abbrev pub releaseTests : Plant → ℕ → List ℕ
+releaseTests p k = unless (recordWithin p) 1 ∷ unless (thousandths k) 2 ∷ []
+
 unfoldable pub release : Plant → ℕ → Outcome
 release p k =
-    decide p (first (unless (recordWithin p) 1 ∷ unless (thousandths k) 2 ∷ []))
+    decide p (first (releaseTests p k))
     (record {
       answer = answer.Released;
       vector = drawn k p.reject;
@@ -117,6 +130,22 @@ stepBy f p (call.Release k) v d = release p k
 
 abbrev pub step : Figures → Plant → Request → Outcome
 step f p r = stepBy f p (r .call) (r .sludge) (r .digester)
+
+-- its refusals, in the order in which they are tested
+abbrev pub testsBy : Figures → Plant → Call → List ℕ → List ℕ → List ℕ
+testsBy f p call.Receive v d = receiveTests p v
+testsBy f p (call.Feed k) v d = feedTests f p k
+testsBy f p (call.Settle gas) v d = settleTests f p gas d
+testsBy f p (call.Return k) v d = returnTests f p k
+testsBy f p (call.Release k) v d = releaseTests p k
+
+-- the first that applies, or 0
+abbrev pub refusalOf : Figures → Plant → Request → ℕ
+refusalOf f p r = first (testsBy f p (r .call) (r .sludge) (r .digester))
+
+-- the number that an answer tells is that one, exactly. proofs/Laws/Calls.antt proves it: exact
+abbrev pub ExactLaw : Type 0
+ExactLaw = (f : Figures) (p : Plant) (r : Request) → told (step f p r .answer) .number ≡ refusalOf f p r
 
 -- ---- requests
 

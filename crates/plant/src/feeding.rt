@@ -2,7 +2,7 @@
 ghost use mathlib.Core.Path.{_≡_};
 ghost use Rattle.interface.specs.Figures.{house};
 ghost use Rattle.plant.specs.Answer.{first, decide};
-ghost use Rattle.plant.specs.Calls.{step, feeding, feedTests, fed};
+ghost use Rattle.plant.specs.Calls.{step, feeding, fedTests, fed};
 use crate::answer::Answer;
 use crate::answer::Outcome;
 use crate::answer::refusal;
@@ -29,7 +29,7 @@ pub fn feed(plant: Plant, k: u64) -> Outcome
 
 // The end of a feed: what the conversion gave, and the rest of the sludge.
 fn feed_converted(plant: Plant, o: interface::Fed, rest: [u64; 13]) -> Outcome
-    ensures { λ r. ⌜ r ≡ decide plant (first (feedTests plant o)) (fed plant o rest) ⌝ }
+    ensures { λ r. ⌜ r ≡ decide plant (first (fedTests plant o)) (fed plant o rest) ⌝ }
 {
     let n = o.refusal;
     if n == 0 {

@@ -2,7 +2,7 @@
 ghost use mathlib.Core.Path.{_≡_};
 ghost use Rattle.interface.specs.Figures.{house};
 ghost use Rattle.plant.specs.Answer.{first, decide};
-ghost use Rattle.plant.specs.Calls.{step, returning, returnTests, returned};
+ghost use Rattle.plant.specs.Calls.{step, returning, returnedTests, returned};
 use crate::answer::Answer;
 use crate::answer::Outcome;
 use crate::answer::refusal;
@@ -29,7 +29,7 @@ pub fn give_back(plant: Plant, k: u64) -> Outcome
 
 // The end of a return: what the conversion gave, and the rest of the digester.
 fn return_converted(plant: Plant, o: interface::Returned, rest: [u64; 26]) -> Outcome
-    ensures { λ r. ⌜ r ≡ decide plant (first (returnTests plant o)) (returned plant o rest) ⌝ }
+    ensures { λ r. ⌜ r ≡ decide plant (first (returnedTests plant o)) (returned plant o rest) ⌝ }
 {
     let n = o.refusal;
     if n == 0 {

@@ -7,7 +7,7 @@ ghost use Rattle.interface.specs.Columns.{Below, digesterCeilings};
 ghost use Rattle.interface.specs.Figures.{house};
 ghost use Rattle.interface.specs.Totals.{digesterCod, digesterTkn, digesterOxygen, digesterNitrate};
 ghost use Rattle.plant.specs.Answer.{first};
-ghost use Rattle.plant.specs.Calls.{step, settling, settleTests};
+ghost use Rattle.plant.specs.Calls.{step, settling, settledTests};
 use crate::answer::Answer;
 use crate::answer::Outcome;
 use crate::answer::refusal;
@@ -47,7 +47,7 @@ pub fn settle(plant: Plant, gas: Milligrams, d: [u64; 26]) -> Outcome
 // The first of 7, 8 and 9 that applies to the proposal d in the place of old, or 0.
 fn open_balance(old: [u64; 26], gas: Milligrams, d: [u64; 26]) -> u64
     requires { ⌜ (Below digesterCeilings old) × (Below digesterCeilings d) ⌝ }
-    ensures { λ r. ⌜ r ≡ first (settleTests house old gas d) ⌝ }
+    ensures { λ r. ⌜ r ≡ first (settledTests house old gas d) ⌝ }
 {
     if cod_closes(
         interface::digester_cod(old),

@@ -56,11 +56,11 @@ number-requires-5 c κs = search needs
 digester-requires : tie.Need-digester-requires
 digester-requires c κs = search needs
 
-slice-aggregate-write-all : tie.Need-slice-aggregate-write-all
-slice-aggregate-write-all c = search needs
+slice-aggregate-text : tie.Need-slice-aggregate-text
+slice-aggregate-text c = search needs
 
-write-all-requires : tie.Need-write-all-requires
-write-all-requires c κs = search needs
+text-requires : tie.Need-text-requires
+text-requires c κs = search needs
 
 returns : tie.Need-returns
 returns c = search needs
@@ -84,6 +84,6 @@ feed-spec =
     slice-aggregate-number-5
     number-requires-5
     digester-requires
-    slice-aggregate-write-all
-    write-all-requires
+    slice-aggregate-text
+    text-requires
     returns)

@@ -35,14 +35,14 @@ slice-aggregate-number-2 c = search needs
 number-requires-2 : tie.Need-number-requires-2
 number-requires-2 c κs = search needs
 
-sludge-requires : tie.Need-sludge-requires
-sludge-requires c κs = search needs
+asm1-requires : tie.Need-asm1-requires
+asm1-requires c κs = search needs
 
-slice-aggregate-write-all : tie.Need-slice-aggregate-write-all
-slice-aggregate-write-all c = search needs
+slice-aggregate-text : tie.Need-slice-aggregate-text
+slice-aggregate-text c = search needs
 
-write-all-requires : tie.Need-write-all-requires
-write-all-requires c κs = search needs
+text-requires : tie.Need-text-requires
+text-requires c κs = search needs
 
 returns : tie.Need-returns
 returns c = search needs
@@ -59,7 +59,7 @@ give-back-spec =
     number-requires
     slice-aggregate-number-2
     number-requires-2
-    sludge-requires
-    slice-aggregate-write-all
-    write-all-requires
+    asm1-requires
+    slice-aggregate-text
+    text-requires
     returns)

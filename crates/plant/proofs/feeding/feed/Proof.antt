@@ -6,7 +6,7 @@ use Rattle.interface.specs.Feed.{feedOf}
 use Rattle.interface.proofs.Laws.Figures.{house-permitted}
 use Rattle.interface.proofs.Laws.Draw.{drawn-below}
 use Rattle.plant.specs.Answer.{first, decide}
-use Rattle.plant.specs.Calls.{feedTests, fed, feed}
+use Rattle.plant.specs.Calls.{fedTests, fed, feed}
 use Rattle.plant.proofs.Laws.Record.{sludge-within, thousandths-le}
 use Rattle.plant.proofs.Laws.Decision.{stop, pass, flag}
 use borrow.Author.Needs.{needs}
@@ -41,7 +41,7 @@ returns c =
     let o = c .before .feed-of .ensures ∙ ap (feedOf house) (c .before .before .before .asm1-drawn .ensures) in
     pass _ _ _ _ _ (flag (c .before .before .before .before .before .before .before .before .record-within .ensures) (c .before .before .before .before .before .before .before .if1 .taken))
     (pass _ _ _ _ _ (flag (c .before .before .before .before .before .before .is-thousandths .ensures) (c .before .before .before .before .before .if2 .taken))
-    (c .feed-converted .ensures ∙ (λ i. decide p (first (feedTests p (o i))) (fed p (o i) (c .before .before .asm1-rest .ensures i)))))
+    (c .feed-converted .ensures ∙ (λ i. decide p (first (fedTests p (o i))) (fed p (o i) (c .before .before .asm1-rest .ensures i)))))
 
 refusal-requires : tie.Need-refusal-requires
 refusal-requires c κs = search needs

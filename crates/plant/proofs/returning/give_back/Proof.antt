@@ -6,7 +6,7 @@ use Rattle.interface.specs.Return.{returnOf}
 use Rattle.interface.proofs.Laws.Figures.{house-permitted}
 use Rattle.interface.proofs.Laws.Draw.{drawn-below}
 use Rattle.plant.specs.Answer.{first, decide}
-use Rattle.plant.specs.Calls.{returnTests, returned, giveBack}
+use Rattle.plant.specs.Calls.{returnedTests, returned, giveBack}
 use Rattle.plant.proofs.Laws.Record.{digester-within, thousandths-le}
 use Rattle.plant.proofs.Laws.Decision.{stop, pass, flag}
 use borrow.Author.Needs.{needs}
@@ -41,7 +41,7 @@ returns c =
     let o = c .before .return-of .ensures ∙ ap (returnOf house) (c .before .before .before .digester-drawn .ensures) in
     pass _ _ _ _ _ (flag (c .before .before .before .before .before .before .before .before .record-within .ensures) (c .before .before .before .before .before .before .before .if1 .taken))
     (pass _ _ _ _ _ (flag (c .before .before .before .before .before .before .is-thousandths .ensures) (c .before .before .before .before .before .if2 .taken))
-    (c .return-converted .ensures ∙ (λ i. decide p (first (returnTests p (o i))) (returned p (o i) (c .before .before .digester-rest .ensures i)))))
+    (c .return-converted .ensures ∙ (λ i. decide p (first (returnedTests p (o i))) (returned p (o i) (c .before .before .digester-rest .ensures i)))))
 
 refusal-requires : tie.Need-refusal-requires
 refusal-requires c κs = search needs

@@ -1,0 +1,10 @@
+// Tests of the plant record: small examples of each call and refusal, and a list of calls whose four balances are added up here, from the
+// calls and their answers, and compared with what is in the tanks.
+mod list;
+mod small;
+mod write;
+
+fn main() {
+    small::examples();
+    list::balances();
+}
