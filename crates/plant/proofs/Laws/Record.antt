@@ -1,6 +1,7 @@
 -- Laws of the record's tests. Assumes nothing.
 --
 --   sludge-within, digester-within, reject-within   the tanks of a record that is within its ceilings
+--   record-below                                    all three, as inequalities
 --   thousandths-le                                  a k that passes is at most 1000
 --   closes, closes-not                              COD that closes, tested without a sum
 --   held-within, held-refused                       the held totals, by the record's test
@@ -11,8 +12,8 @@ use Prim.Native.Nat.{ℕ, _+_, _-_, _≤_, _<_}
 use native.Mathlib.Omega.{arith}
 use lib.Dec.{leb, eqb}
 use borrow.Author.Tests.{leb-true, eqb-true, eqb-false, eq-eqb, ne-eqb}
-use Rattle.interface.specs.Columns.{asm1Ceilings, digesterCeilings, within}
-use Rattle.interface.proofs.Laws.Columns.{both-true}
+use Rattle.interface.specs.Columns.{asm1Ceilings, digesterCeilings, within, Below}
+use Rattle.interface.proofs.Laws.Columns.{both-true, within-below}
 use Rattle.interface.specs.declared.figures.Figures.{Figures}
 use Rattle.plant.specs.declared.record.Plant.{Plant}
 use Rattle.plant.specs.declared.holding.HeldTotals.{HeldTotals}
@@ -31,6 +32,14 @@ digester-within p e = both-true _ (within asm1Ceilings p.reject) (both-true (wit
 pub reject-within : (p : Plant) → recordWithin p ≡ true → within asm1Ceilings p.reject ≡ true
 unfolding recordWithin
 reject-within p e = both-true (within digesterCeilings p.digester) _ (both-true (within asm1Ceilings p.sludge) _ e .1) .1
+
+-- the same as inequalities
+pub record-below : (p : Plant) → recordWithin p ≡ true
+    → (Below asm1Ceilings p.sludge) × ((Below digesterCeilings p.digester) × (Below asm1Ceilings p.reject))
+record-below p e = (
+  within-below asm1Ceilings p.sludge (sludge-within p e),
+  (within-below digesterCeilings p.digester (digester-within p e), within-below asm1Ceilings p.reject (reject-within p e)),
+)
 
 pub thousandths-le : (k : ℕ) → thousandths k ≡ true → k ≤ 1000
 unfolding thousandths

@@ -1,11 +1,11 @@
 -- `plant::holding::held` meets its contract. Assumes nothing.
+use Rattle.plant.proofs.Laws.Record.{record-below}
+-- `plant::holding::held` meets its contract. Assumes nothing.
 use Rattle.interface.specs.Figures.{house}
 use Rattle.plant.specs.Balance.{oxygenIn, nitrateIn}
 use native.Mathlib.Omega.{arith}
-use Rattle.interface.specs.Columns.{asm1Ceilings, digesterCeilings}
 use Rattle.interface.specs.Units.{milligrams, ticks}
-use Rattle.interface.proofs.Laws.Columns.{within-below}
-use Rattle.plant.proofs.Laws.Record.{sludge-within, digester-within, reject-within, held-within, held-refused}
+use Rattle.plant.proofs.Laws.Record.{held-within, held-refused}
 use Rattle.plant.proofs.Laws.Decision.{flag}
 use borrow.Author.Needs.{needs}
 use Rattle.plant.proofs.holding.held.Statement.{statement}
@@ -15,16 +15,10 @@ record-within-requires : tie.Need-record-within-requires
 record-within-requires c κs = search needs
 
 cod-in-requires : tie.Need-cod-in-requires
-cod-in-requires c κs =
-    let p = c .before .before .before .before .before .args .plant in
-    let w = flag (c .before .before .before .before .record-within .ensures) (c .before .before .before .if1 .taken) in
-    (within-below asm1Ceilings _ (sludge-within p w), (within-below digesterCeilings _ (digester-within p w), within-below asm1Ceilings _ (reject-within p w)))
+cod-in-requires c κs = record-below (c .before .before .before .before .before .args .plant) (flag (c .before .before .before .before .record-within .ensures) (c .before .before .before .if1 .taken))
 
 tkn-in-requires : tie.Need-tkn-in-requires
-tkn-in-requires c κs =
-    let p = c .before .before .before .before .before .before .args .plant in
-    let w = flag (c .before .before .before .before .before .record-within .ensures) (c .before .before .before .before .if1 .taken) in
-    (within-below asm1Ceilings _ (sludge-within p w), (within-below digesterCeilings _ (digester-within p w), within-below asm1Ceilings _ (reject-within p w)))
+tkn-in-requires c κs = record-below (c .before .before .before .before .before .before .args .plant) (flag (c .before .before .before .before .before .record-within .ensures) (c .before .before .before .before .if1 .taken))
 
 array-read-t16 : tie.Need-array-read-t16
 array-read-t16 c = search needs
@@ -33,19 +27,13 @@ array-read-t19 : tie.Need-array-read-t19
 array-read-t19 c = search needs
 
 add-t20 : tie.Need-add-t20
-add-t20 c =
-    let p = c .before .before .before .before .before .before .before .args .plant in
-    let w = flag (c .before .before .before .before .before .before .record-within .ensures) (c .before .before .before .before .before .if1 .taken) in
-    omega (arith, within-below asm1Ceilings _ (sludge-within p w), within-below digesterCeilings _ (digester-within p w), within-below asm1Ceilings _ (reject-within p w))
+add-t20 c = omega (arith, record-below (c .before .before .before .before .before .before .before .args .plant) (flag (c .before .before .before .before .before .before .record-within .ensures) (c .before .before .before .before .before .if1 .taken)))
 
 array-read-t23 : tie.Need-array-read-t23
 array-read-t23 c = search needs
 
 add-t24 : tie.Need-add-t24
-add-t24 c =
-    let p = c .before .before .before .before .before .before .before .args .plant in
-    let w = flag (c .before .before .before .before .before .before .record-within .ensures) (c .before .before .before .before .before .if1 .taken) in
-    omega (arith, within-below asm1Ceilings _ (sludge-within p w), within-below digesterCeilings _ (digester-within p w), within-below asm1Ceilings _ (reject-within p w))
+add-t24 c = omega (arith, record-below (c .before .before .before .before .before .before .before .args .plant) (flag (c .before .before .before .before .before .before .record-within .ensures) (c .before .before .before .before .before .if1 .taken)))
 
 array-read-t28 : tie.Need-array-read-t28
 array-read-t28 c = search needs
@@ -54,19 +42,13 @@ array-read-t31 : tie.Need-array-read-t31
 array-read-t31 c = search needs
 
 add-t32 : tie.Need-add-t32
-add-t32 c =
-    let p = c .before .before .before .before .before .before .before .args .plant in
-    let w = flag (c .before .before .before .before .before .before .record-within .ensures) (c .before .before .before .before .before .if1 .taken) in
-    omega (arith, within-below asm1Ceilings _ (sludge-within p w), within-below digesterCeilings _ (digester-within p w), within-below asm1Ceilings _ (reject-within p w))
+add-t32 c = omega (arith, record-below (c .before .before .before .before .before .before .before .args .plant) (flag (c .before .before .before .before .before .before .record-within .ensures) (c .before .before .before .before .before .if1 .taken)))
 
 array-read-t35 : tie.Need-array-read-t35
 array-read-t35 c = search needs
 
 add-t36 : tie.Need-add-t36
-add-t36 c =
-    let p = c .before .before .before .before .before .before .before .args .plant in
-    let w = flag (c .before .before .before .before .before .before .record-within .ensures) (c .before .before .before .before .before .if1 .taken) in
-    omega (arith, within-below asm1Ceilings _ (sludge-within p w), within-below digesterCeilings _ (digester-within p w), within-below asm1Ceilings _ (reject-within p w))
+add-t36 c = omega (arith, record-below (c .before .before .before .before .before .before .before .args .plant) (flag (c .before .before .before .before .before .before .record-within .ensures) (c .before .before .before .before .before .if1 .taken)))
 
 returns : tie.Need-returns
 returns c =
