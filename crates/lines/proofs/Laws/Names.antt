@@ -1,0 +1,43 @@
+-- Laws of column names. Assumes nothing.
+--
+--   column-found, column-next, column-end   a search for a name, one name a turn
+--   entries-at                              the entries of a table, by their places
+use mathlib.Core.Bool.{true, false}
+use mathlib.Core.List.{List, [], _∷_}
+use mathlib.Core.Path.{_≡_, refl, sym, ap, _∙_}
+use Prim.Native.Nat.{ℕ, zero, suc, _+_, _*_, _≤_, _<_}
+use native.Mathlib.Omega.{arith}
+use lib.ListN.{length, take, drop, getD, drop-of-length-le}
+use lib.Seq.{drop-drop}
+use Rattle.lines.specs.declared.names.Column.the-variants.{At, Unknown}
+use Rattle.lines.specs.Text.{sameBytes, upTo, space}
+use Rattle.lines.specs.Names.{columnFrom, entryAt, entries}
+use Rattle.lines.proofs.Laws.Text.{head-at}
+
+module _ (ns : List (List ℕ)) (s : List ℕ) (k i : ℕ) where
+  pub column-found : i < length ns → sameBytes s (getD ns i []) ≡ true → columnFrom k (drop i ns) s ≡ At k
+  unfolding columnFrom
+  column-found h e = simp (head-at ns [] i h, e)
+
+  pub column-next : i < length ns → sameBytes s (getD ns i []) ≡ false → columnFrom k (drop i ns) s ≡ columnFrom (k + 1) (drop (i + 1) ns) s
+  unfolding columnFrom
+  column-next h e = simp (head-at ns [] i h, e)
+
+  pub column-end : length ns ≤ i → columnFrom k (drop i ns) s ≡ Unknown
+  unfolding columnFrom
+  column-end h = simp (drop-of-length-le ns h)
+
+pub entries-length : (n : ℕ) (t : List ℕ) → length (entries n t) ≡ n
+unfolding entries
+entries-length zero t = refl
+entries-length (suc n) t = ap suc (entries-length n (drop 4 t))
+
+pub entries-at : (n : ℕ) (t : List ℕ) (c : ℕ) → c < n → getD (entries n t) c [] ≡ entryAt t c
+unfolding entries
+entries-at zero t c h = absurd (omega arith)
+entries-at (suc n) t zero h = refl
+entries-at (suc n) t (suc c) h =
+    entries-at n (drop 4 t) c (omega arith) ∙ ap (λ (l : List ℕ). upTo space (take 4 l)) (drop-drop (4 * c) 4 t ∙ ap (λ (k : ℕ). drop k t) place)
+  where
+    place : 4 + 4 * c ≡ 4 * suc c
+    place = omega arith
