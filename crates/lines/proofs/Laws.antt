@@ -1,6 +1,8 @@
 -- Laws of the text layer, one file for each file of specs/.
 pub mod Text
 pub mod Number
+pub mod Decimal
 pub mod Names
 pub mod Form
+pub mod Buffer
 pub mod Examples

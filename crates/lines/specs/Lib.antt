@@ -2,4 +2,6 @@ pub mod Text
 pub mod Number
 pub mod Names
 pub mod Form
+pub mod Buffer
+pub mod Answer
 pub mod Examples

@@ -4,6 +4,7 @@ mod fields;
 mod form;
 mod names;
 mod number;
+mod put;
 
 pub use form::Form;
 pub use form::Line;

@@ -2,17 +2,20 @@
 --
 --   column-found, column-next, column-end   a search for a name, one name a turn
 --   entries-at                              the entries of a table, by their places
+--   entry-is, entry-length                  an entry, as the code finds it
+--   sludge-name                             the code's table of ASM1 names
 use mathlib.Core.Bool.{true, false}
 use mathlib.Core.List.{List, [], _∷_}
 use mathlib.Core.Path.{_≡_, refl, sym, ap, _∙_}
-use Prim.Native.Nat.{ℕ, zero, suc, _+_, _*_, _≤_, _<_}
+use Prim.Native.Nat.{ℕ, zero, suc, _+_, _-_, _*_, _≤_, _<_}
 use native.Mathlib.Omega.{arith}
-use lib.ListN.{length, take, drop, getD, drop-of-length-le}
+use lib.ListN.{length, take, drop, getD, drop-of-length-le, length-take}
 use lib.Seq.{drop-drop}
+use Rattle.lines.specs.declared.names.Vector.the-variants.{Sludge}
 use Rattle.lines.specs.declared.names.Column.the-variants.{At, Unknown}
-use Rattle.lines.specs.Text.{sameBytes, upTo, space}
-use Rattle.lines.specs.Names.{columnFrom, entryAt, entries}
-use Rattle.lines.proofs.Laws.Text.{head-at}
+use Rattle.lines.specs.Text.{ascii, sameBytes, upTo, space}
+use Rattle.lines.specs.Names.{namesOf, columnFrom, entryAt, entries}
+use Rattle.lines.proofs.Laws.Text.{head-at, upTo-place, upTo-length}
 
 module _ (ns : List (List ℕ)) (s : List ℕ) (k i : ℕ) where
   pub column-found : i < length ns → sameBytes s (getD ns i []) ≡ true → columnFrom k (drop i ns) s ≡ At k
@@ -41,3 +44,21 @@ entries-at (suc n) t (suc c) h =
   where
     place : 4 + 4 * c ≡ 4 * suc c
     place = omega arith
+
+-- the name at place c, where k is the place of the space behind it
+pub entry-is : (t : List ℕ) (c k : ℕ) → k ≡ 0 + length (upTo space (take (4 * c + 4 - 4 * c) (drop (4 * c) t))) → take k (take (4 * c + 4 - 4 * c) (drop (4 * c) t)) ≡ entryAt t c
+entry-is t c k e = upTo-place space (take (4 * c + 4 - 4 * c) (drop (4 * c) t)) k e ∙ ap (λ (m : ℕ). upTo space (take m (drop (4 * c) t))) four
+  where
+    four : 4 * c + 4 - 4 * c ≡ 4
+    four = omega arith
+
+pub entry-length : (t : List ℕ) (c : ℕ) → length (entryAt t c) ≤ 4
+entry-length t c = omega (arith, upTo-length space (take 4 (drop (4 * c) t)), length-take 4 (drop (4 * c) t))
+
+pub sludge-table : entries 13 (ascii "si  ss  xi  xs  xbh xba xp  so  sno snh snd xnd salk") ≡ namesOf Sludge
+unfolding entries upTo
+sludge-table = refl
+
+-- the table of the code has the names of the columns
+pub sludge-name : (c : ℕ) → c < 13 → entryAt (ascii "si  ss  xi  xs  xbh xba xp  so  sno snh snd xnd salk") c ≡ getD (namesOf Sludge) c []
+sludge-name c h = sym (entries-at 13 (ascii "si  ss  xi  xs  xbh xba xp  so  sno snh snd xnd salk") c h) ∙ ap (λ (ns : List (List ℕ)). getD ns c []) sludge-table
