@@ -5,4 +5,5 @@ pub mod Decimal
 pub mod Names
 pub mod Form
 pub mod Buffer
+pub mod Answer
 pub mod Examples

@@ -1,4 +1,5 @@
 // The text layer.
+mod answer;
 mod bytes;
 mod fields;
 mod form;
@@ -6,5 +7,8 @@ mod names;
 mod number;
 mod put;
 
+pub use answer::filled_answer;
+pub use answer::write_answer;
+pub use answer::write_held;
 pub use form::Form;
 pub use form::Line;

@@ -4,7 +4,7 @@
 --   put-then                                two writers, one behind the other, are one
 --   put-length                              the buffer keeps its length
 --   columns-then                            one column more
---   answered, filled                        an answer at the start, and the part that it fills
+--   answered, filled, answered-room         an answer at the start, the part that it fills, and its room
 use mathlib.Core.List.{List, [], _∷_, _++_, append-assoc}
 use mathlib.Core.Path.{_≡_, refl, sym, ap, _∙_}
 use Prim.Native.Nat.{ℕ, _+_, _≤_, _<_}
@@ -89,3 +89,6 @@ answered {d} {s} p h = record { count = p .next ∙ zero-add (length s); buffer 
 
 pub filled : {d s : List ℕ} {r : ℕ} {e : List ℕ} → Answered d s r e → take r e ≡ s
 filled {d} {s} {r} p = ap (take r) (p .buffer) ∙ take-at s (drop (length s) d) r (sym (p .count))
+
+pub answered-room : {d s : List ℕ} {r : ℕ} {e : List ℕ} → Answered d s r e → r ≤ length e
+answered-room {d} {s} p = omega (arith, p .count, ap length (p .buffer), length-append s (drop (length s) d))

@@ -1,24 +1,19 @@
-use mathlib.Core.Path.{_≡_, refl, sym, ap, subst, _∙_}
+-- `lines::put::put_byte` meets its contract. Assumes nothing.
+use mathlib.Core.Path.{refl}
 use Rattle.lines.proofs.Laws.Buffer.{put-byte}
 use borrow.Author.Needs.{needs}
 use Rattle.lines.proofs.put.put_byte.Statement.{statement}
 use Rattle.lines.proofs.put.put_byte.Tie as tie
-use Rattle.lines.proofs.put.put_byte.Reads as reads
-use Rattle.lines.proofs.put.put_byte.Lts as lts
 
--- src/put.rt:16:5
 slice-write-buf : tie.Need-slice-write-buf
 slice-write-buf c = search needs
 
--- src/put.rt:17:5
 add-result : tie.Need-add-result
 add-result c = search needs
 
--- src/put.rt:12:1
 same-length : tie.Need-same-length
 same-length c = search needs
 
--- src/put.rt:12:1
 returns : tie.Need-returns
 returns c = record { next = refl; bytes = put-byte _ _ _ (c .pre) }
 

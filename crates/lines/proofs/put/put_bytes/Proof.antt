@@ -1,6 +1,7 @@
-use mathlib.Core.Path.{_≡_, refl, sym, ap, subst, _∙_}
-use Prim.Native.Nat.{ℕ, _+_, _-_, _*_, _≤_}
-use lib.ListN.{length, take, drop, getD, set}
+-- `lines::put::put_bytes` meets its contract. Assumes nothing.
+use mathlib.Core.Path.{_≡_, refl, ap, _∙_}
+use Prim.Native.Nat.{ℕ, _+_, _-_, _≤_}
+use lib.ListN.{length, take, getD, set}
 use native.Mathlib.Omega.{arith}
 use lib.ListN.{length-set}
 use Rattle.lines.specs.Buffer.{putAt}
@@ -9,8 +10,6 @@ use Rattle.lines.proofs.Laws.Buffer.{put-none, put-more, put-all}
 use borrow.Author.Needs.{needs}
 use Rattle.lines.proofs.put.put_bytes.Statement.{statement}
 use Rattle.lines.proofs.put.put_bytes.Tie as tie
-use Rattle.lines.proofs.put.put_bytes.Reads as reads
-use Rattle.lines.proofs.put.put_bytes.Lts as lts
 
 abbrev Inv-loop : tie.InvT-loop
 Inv-loop buf₀ at s i₀ buf i = (i ≤ length s) × (length buf ≡ length buf₀) × (buf ≡ putAt buf₀ at (take i s))
@@ -18,31 +17,24 @@ Inv-loop buf₀ at s i₀ buf i = (i ≤ length s) × (length buf ≡ length buf
 abbrev μ-loop : tie.MeasureT-loop
 μ-loop buf₀ at s i₀ buf i = length s - i
 
--- src/put.rt:25:5
 loop-holds : tie.Need-loop-holds Inv-loop μ-loop
 loop-holds c = (search needs, refl, put-none _ _ (c .args .s .now))
 
--- src/put.rt:26:23
 shared-slice-read-buf : tie.Need-shared-slice-read-buf Inv-loop μ-loop
 shared-slice-read-buf c = search needs
 
--- src/put.rt:26:13
 add-buf : tie.Need-add-buf Inv-loop μ-loop
 add-buf c = search needs
 
--- src/put.rt:26:9
 slice-write-buf : tie.Need-slice-write-buf Inv-loop μ-loop
 slice-write-buf c = search needs
 
--- src/put.rt:27:9
 add-i : tie.Need-add-i Inv-loop μ-loop
 add-i c = search needs
 
--- src/put.rt:25:5
 loop-less : tie.Need-loop-less Inv-loop μ-loop
 loop-less c = search needs
 
--- src/put.rt:25:5
 loop-again : tie.Need-loop-again Inv-loop μ-loop
 loop-again c =
     let l = c .before .before .loop in
@@ -52,15 +44,12 @@ loop-again c =
       ap (λ (b : List ℕ). set b (a .at + l .i) (getD (a .s .now) (l .i) 0)) (l .inv .2) ∙ put-more (a .buf .now) (a .at) (a .s .now) (l .i) (omega arith) (omega arith),
     )
 
--- src/put.rt:29:5
 add-result : tie.Need-add-result Inv-loop μ-loop
 add-result c = search needs
 
--- src/put.rt:20:1
 same-length : tie.Need-same-length Inv-loop μ-loop
 same-length c = search needs
 
--- src/put.rt:20:1
 returns : tie.Need-returns Inv-loop μ-loop
 returns c =
     let l = c .before .loop in

@@ -1,20 +1,18 @@
-use mathlib.Core.Path.{_≡_, refl, sym, ap, subst, _∙_}
+-- `lines::put::put_columns` meets its contract. Assumes nothing.
+use mathlib.Core.Path.{_≡_, refl, subst}
 use Prim.Native.Nat.{ℕ, _+_, _-_, _*_, _≤_}
-use lib.ListN.{length, take, drop, getD, set}
+use lib.ListN.{length, getD}
 use native.Mathlib.Omega.{arith}
 use mathlib.Core.List.{List}
 use Rattle.lines.specs.declared.names.Vector.the-variants.{Sludge}
 use Rattle.lines.specs.Names.{namesOf}
 use Rattle.lines.specs.Buffer.{Put}
 use Rattle.lines.specs.Answer.{columnText, columnsText}
-use Rattle.lines.proofs.Laws.Buffer.{put-nothing, put-then, columns-then}
+use Rattle.lines.proofs.Laws.Buffer.{put-nothing, columns-then}
 use Rattle.lines.proofs.Laws.Names.{sludge-name}
 use borrow.Author.Needs.{needs}
 use Rattle.lines.proofs.put.put_columns.Statement.{statement}
 use Rattle.lines.proofs.put.put_columns.Tie as tie
-use Rattle.lines.proofs.put.put_columns.Reads as reads
-use Rattle.lines.proofs.put.put_columns.Lts as lts
-use Rattle.lines.proofs.put.put_column.Reads as put-column-reads
 
 abbrev Inv-loop : tie.InvT-loop
 Inv-loop buf₀ at v names i₀ c₀ buf i c = (c ≤ 13) × (length buf ≡ length buf₀) × (i ≤ at + 28 * c) × Put buf₀ at (columnsText (namesOf Sludge) c v) i buf
@@ -22,32 +20,25 @@ Inv-loop buf₀ at v names i₀ c₀ buf i c = (c ≤ 13) × (length buf ≡ len
 abbrev μ-loop : tie.MeasureT-loop
 μ-loop buf₀ at v names i₀ c₀ buf i c = 13 - c
 
--- src/put.rt:83:5
 loop-holds : tie.Need-loop-holds Inv-loop μ-loop
 unfolding columnsText
 loop-holds c = (search needs, refl, omega arith, put-nothing _ _)
 
--- src/put.rt:84:42
 mul-put-column : tie.Need-mul-put-column Inv-loop μ-loop
 mul-put-column c = search needs
 
--- src/put.rt:84:42
 array-read-put-column : tie.Need-array-read-put-column Inv-loop μ-loop
 array-read-put-column c = search needs
 
--- src/put.rt:84:9
 put-column-requires : tie.Need-put-column-requires Inv-loop μ-loop
 put-column-requires c κs = search needs
 
--- src/put.rt:85:9
 add-c : tie.Need-add-c Inv-loop μ-loop
 add-c c = search needs
 
--- src/put.rt:83:5
 loop-less : tie.Need-loop-less Inv-loop μ-loop
 loop-less c = search needs
 
--- src/put.rt:83:5
 loop-again : tie.Need-loop-again Inv-loop μ-loop
 loop-again c =
     let l = c .before .before .before .before .before .before .loop in
@@ -56,11 +47,9 @@ loop-again c =
     let p = subst (λ (s : List ℕ). Put (l .buf) (l .i) (columnText s (getD (a .t3) (l .c) 0)) (c .before .before .put-column .result) (c .before .before .put-column .last .0)) name (c .before .before .put-column .ensures .0) in
     (omega arith, omega arith, omega arith, columns-then (namesOf Sludge) (l .c) (a .t3) (l .inv .3) p (omega arith))
 
--- src/put.rt:76:1
 same-length : tie.Need-same-length Inv-loop μ-loop
 same-length c = search needs
 
--- src/put.rt:76:1
 returns : tie.Need-returns Inv-loop μ-loop
 returns c =
     let l = c .before .loop in

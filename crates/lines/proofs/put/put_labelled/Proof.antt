@@ -1,26 +1,19 @@
+-- `lines::put::put_labelled` meets its contract. Assumes nothing.
 use native.Mathlib.Omega.{arith}
 use Rattle.lines.proofs.Laws.Buffer.{put-then}
 use borrow.Author.Needs.{needs}
 use Rattle.lines.proofs.put.put_labelled.Statement.{statement}
 use Rattle.lines.proofs.put.put_labelled.Tie as tie
-use Rattle.lines.proofs.put.put_labelled.Reads as reads
-use Rattle.lines.proofs.put.put_labelled.Lts as lts
-use Rattle.lines.proofs.put.put_bytes.Reads as put-bytes-reads
-use Rattle.lines.proofs.put.put_number.Reads as put-number-reads
 
--- src/put.rt:47:9
 put-bytes-requires : tie.Need-put-bytes-requires
 put-bytes-requires c κs = search needs
 
--- src/put.rt:48:5
 put-number-requires : tie.Need-put-number-requires
 put-number-requires c κs = search needs
 
--- src/put.rt:43:1
 same-length : tie.Need-same-length
 same-length c = search needs
 
--- src/put.rt:43:1
 returns : tie.Need-returns
 returns c = (put-then (c .before .before .before .before .before .before .put-bytes .ensures) (c .before .before .put-number .ensures .0) (omega arith), omega arith)
 

@@ -1,41 +1,31 @@
+-- `lines::put::put_number` meets its contract. Assumes nothing.
 use Rattle.lines.proofs.Laws.Decimal.{fewest-le, decimal-is, decimal-length}
-use mathlib.Core.Path.{_≡_, refl, sym, ap, subst, _∙_}
-use Prim.Native.Nat.{ℕ, _+_, _-_, _*_, _≤_}
-use lib.ListN.{length, take, drop, getD, set}
+use mathlib.Core.Path.{subst, _∙_}
+use Prim.Native.Nat.{ℕ}
 use native.Mathlib.Omega.{arith}
 use mathlib.Core.List.{List}
 use Rattle.lines.specs.Buffer.{Put}
 use borrow.Author.Needs.{needs}
 use Rattle.lines.proofs.put.put_number.Statement.{statement}
 use Rattle.lines.proofs.put.put_number.Tie as tie
-use Rattle.lines.proofs.put.put_number.Reads as reads
-use Rattle.lines.proofs.put.put_number.Lts as lts
-use Rattle.io.proofs.decimal.Reads as decimal-reads
-use Rattle.lines.proofs.put.put_bytes.Reads as put-bytes-reads
 
--- src/put.rt:38:9
 decimal-requires : tie.Need-decimal-requires
 decimal-requires c κs = search needs
 
--- src/put.rt:39:24
 array-share-prefix-text : tie.Need-array-share-prefix-text
 array-share-prefix-text c = search needs
 
--- src/put.rt:39:24
 slice-aggregate-put-bytes : tie.Need-slice-aggregate-put-bytes
 slice-aggregate-put-bytes c = search needs
 
--- src/put.rt:39:5
 put-bytes-requires : tie.Need-put-bytes-requires
 put-bytes-requires c κs =
     let d = c .before .before .decimal in
     omega (arith, d .ensures .0, fewest-le (c .before .before .before .before .before .args .n) (d .result) (omega arith) (d .ensures .1 .0), c .before .before .before .before .before .pre)
 
--- src/put.rt:33:1
 same-length : tie.Need-same-length
 same-length c = search needs
 
--- src/put.rt:33:1
 returns : tie.Need-returns
 returns c =
     let d = c .before .before .before .before .before .decimal in
