@@ -4,4 +4,5 @@ pub mod Names
 pub mod Form
 pub mod Buffer
 pub mod Answer
+pub mod Asking
 pub mod Examples

@@ -1,5 +1,6 @@
 // The text layer.
 mod answer;
+mod asking;
 mod bytes;
 mod fields;
 mod form;
@@ -10,5 +11,9 @@ mod put;
 pub use answer::filled_answer;
 pub use answer::write_answer;
 pub use answer::write_held;
+pub use asking::LineOutcome;
+pub use asking::answer_line;
+pub use asking::filled_part;
+pub use asking::held_line;
 pub use form::Form;
 pub use form::Line;

@@ -23,6 +23,7 @@ pub use answer::Answer;
 pub use answer::Call;
 pub use answer::Outcome;
 pub use answer::Request;
+pub use answer::refusal;
 pub use calls::answer_request;
 pub use feeding::feed;
 pub use holding::HeldTotals;

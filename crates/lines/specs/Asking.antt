@@ -1,0 +1,46 @@
+-- The call on a line: document 01, "Lines in brackets" and "Refusals in order".
+--
+--   formOutcome    what a line that has been read gives on a record; no form is refused with 11
+--   lineOutcome    the outcome with a buffer of m bytes, refused with 12 where m is under 512
+--   lineText       the answer's bytes
+--   LineAnswered   the promise of the call: the outcome, the count and the whole buffer
+use mathlib.Core.Bool.{cond}
+use mathlib.Core.List.{List}
+use mathlib.Core.Path.{_≡_}
+use Prim.Native.Nat.{ℕ}
+use lib.Dec.{ltb}
+use lib.ListN.{length}
+use Rattle.interface.specs.declared.figures.Figures.{Figures}
+use Rattle.plant.specs.declared.record.Plant.{Plant}
+use Rattle.plant.specs.declared.answer.Outcome.{Outcome}
+use Rattle.plant.specs.Answer.{refused}
+use Rattle.plant.specs.Calls.{step}
+use Rattle.lines.specs.declared.form.Form.{Form}
+use Rattle.lines.specs.declared.form.Form.the-variants.{Asked, NotAForm}
+use Rattle.lines.specs.declared.form.Line.{Line}
+use Rattle.lines.specs.declared.asking.LineOutcome.{LineOutcome}
+use Rattle.lines.specs.Form.{readLine}
+use Rattle.lines.specs.Buffer.{Answered}
+use Rattle.lines.specs.Answer.{answerText, fitting}
+
+abbrev pub askedOutcome : Figures → Plant → Form → Line → Outcome
+askedOutcome f p (Asked call) l = step f p (record { call = call; sludge = l .sludge; digester = l .digester })
+askedOutcome f p NotAForm l = refused p 11
+
+abbrev pub formOutcome : Figures → Plant → Line → Outcome
+formOutcome f p l = askedOutcome f p (l .form) l
+
+unfoldable pub lineOutcome : Figures → ℕ → Plant → List ℕ → Outcome
+lineOutcome f m p s = cond (ltb m 512) (refused p 12) (formOutcome f p (readLine s))
+
+abbrev pub outcomeText : Outcome → List ℕ
+outcomeText o = answerText (o .answer) (o .vector)
+
+-- under 12 there is none
+unfoldable pub lineText : Figures → ℕ → Plant → List ℕ → List ℕ
+lineText f m p s = fitting m (outcomeText (formOutcome f p (readLine s)))
+
+-- from the record p, the line s and the buffer d to the result r and the buffer e
+pub record LineAnswered (f : Figures) (p : Plant) (s d : List ℕ) (r : LineOutcome) (e : List ℕ) : Type 0 where
+  pub outcome : r .outcome ≡ lineOutcome f (length d) p s
+  pub text : Answered d (lineText f (length d) p s) (r .length) e
