@@ -5,4 +5,5 @@ pub mod Form
 pub mod Buffer
 pub mod Answer
 pub mod Asking
+pub mod Session
 pub mod Examples

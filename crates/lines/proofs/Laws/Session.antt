@@ -1,0 +1,106 @@
+-- Laws of a session. Assumes nothing.
+--
+--   given-cut        a line cut to 1,025 bytes is answered as the line is
+--   run-append       bytes run one part behind the other
+--   whole            byte by byte, the answers and the record are those of the lines
+--   after-requests   the record after lines is that after the calls that they ask
+use mathlib.Core.Bool.{Bool, true, false, cond}
+use mathlib.Core.List.{List, [], _∷_, _++_, append-assoc, append-nil}
+use mathlib.Core.Path.{_≡_, refl, sym, ap, _∙_}
+use Prim.Native.Nat.{ℕ, zero, suc, _≤_, _<_}
+use native.Mathlib.Omega.{arith}
+use lib.Dec.{eqb, leb}
+use lib.ListN.{length, take}
+use lib.Seq.{take-all, length-take-le}
+use borrow.Author.Tests.{leb-true, leb-false}
+use Rattle.interface.specs.declared.figures.Figures.{Figures}
+use Rattle.plant.specs.declared.record.Plant.{Plant}
+use Rattle.plant.specs.declared.answer.Outcome.{Outcome}
+use Rattle.plant.specs.Record.{freshPlant}
+use Rattle.plant.specs.Balance.{after}
+use Rattle.lines.specs.declared.form.Form.{Form}
+use Rattle.lines.specs.declared.form.Form.the-variants.{Asked, NotAForm}
+use Rattle.lines.specs.declared.form.Line.{Line}
+use Rattle.lines.specs.Text.{newline}
+use Rattle.lines.specs.Form.{readLine}
+use Rattle.lines.specs.Answer.{answerText}
+use Rattle.lines.specs.Asking.{formOutcome, askedOutcome, outcomeText}
+use Rattle.lines.specs.Session.{State, keep, kept, ended, run, finish, start, cut, cutLines, givenBy, answerOf, afterLine, answers, afterLines, requestOf, requests, Whole, WholeLaw}
+use Rattle.lines.proofs.Laws.Form.{line-long}
+
+-- ---- a line over 1,024 bytes
+
+line-cut : (l : List ℕ) → readLine (take 1025 l) ≡ readLine l
+line-cut l = go (leb (length l) 1025) refl
+  where
+    go : (t : Bool) → leb (length l) 1025 ≡ t → readLine (take 1025 l) ≡ readLine l
+    go true h = ap readLine (take-all 1025 l (leb-true (length l) 1025 h))
+    go false h =
+        let k = leb-false (length l) 1025 h in
+        sym (line-long (take 1025 l) (omega (arith, length-take-le 1025 l (omega arith)))) ∙ line-long l (omega arith)
+
+pub given-cut : (f : Figures) (p : Plant) (l : List ℕ) → givenBy f p (take 1025 l) ≡ givenBy f p l
+unfolding givenBy
+given-cut f p l = ap (formOutcome f p) (line-cut l)
+
+-- ---- bytes
+
+pub run-append : (f : Figures) (st : State) (a b : List ℕ) → run f st (a ++ b) ≡ run f (run f st a) b
+unfolding run
+run-append f st [] b = refl
+run-append f st (x ∷ a) b = run-append f (cond (eqb x newline) (ended f st) (kept st (x ∷ []))) a b
+
+pub take-take-append : (n : ℕ) (x s : List ℕ) → take n (take n x ++ s) ≡ take n (x ++ s)
+take-take-append zero x s = refl
+take-take-append (suc n) [] s = refl
+take-take-append (suc n) (b ∷ x) s = ap (λ (l : List ℕ). b ∷ l) (take-take-append n x s)
+
+abbrev from : List ℕ → Plant → List ℕ → State
+from h p out = record { held = h; plant = p; printed = out }
+
+-- a state's answer to a line, by the line's outcome
+abbrev behind : List ℕ → Outcome → State
+behind out o = from [] (o .plant) (out ++ (outcomeText o ++ (newline ∷ [])))
+
+module _ (f : Figures) where
+  -- all that is said for lines, behind what was said
+  abbrev told : List ℕ → Plant → List (List ℕ) → State
+  told out p ls = from [] (afterLines f p ls) (out ++ answers f p ls)
+
+  -- one byte more: a newline or not
+  one : (t : Bool) (input h : List ℕ) (p : Plant) (out : List ℕ) (b : ℕ)
+      → finish f (run f (from [] (afterLine f p h) (out ++ answerOf f p h)) input) ≡ told (out ++ answerOf f p h) (afterLine f p h) (cut [] input)
+      → finish f (run f (from (take 1025 (h ++ (b ∷ []))) p out) input) ≡ told out p (cut (h ++ (b ∷ [])) input)
+      → finish f (run f (cond t (ended f (from (take 1025 h) p out)) (kept (from (take 1025 h) p out) (b ∷ []))) input) ≡ told out p (cond t (h ∷ cut [] input) (cut (h ++ (b ∷ [])) input))
+  unfolding answers afterLines
+  one true input h p out b e q =
+      ap (λ (o : Outcome). finish f (run f (behind out o) input)) (given-cut f p h)
+      ∙ e
+      ∙ ap (from [] (afterLines f (afterLine f p h) (cut [] input))) (append-assoc out (answerOf f p h) (answers f (afterLine f p h) (cut [] input)))
+  one false input h p out b e q = ap (λ (l : List ℕ). finish f (run f (from l p out) input)) (take-take-append 1025 h (b ∷ [])) ∙ q
+
+  holds : (input h : List ℕ) (p : Plant) (out : List ℕ) → finish f (run f (from (take 1025 h) p out) input) ≡ told out p (cut h input)
+  unfolding run cut answers afterLines
+  holds [] [] p out = ap (from [] p) (sym (append-nil out))
+  holds [] (b ∷ h) p out =
+      ap (behind out) (given-cut f p (b ∷ h))
+      ∙ ap (λ (l : List ℕ). from [] (afterLine f p (b ∷ h)) (out ++ l)) (sym (append-nil (answerOf f p (b ∷ h))))
+  holds (b ∷ input) h p out = one (eqb b newline) input h p out b (holds input [] (afterLine f p h) (out ++ answerOf f p h)) (holds input (h ++ (b ∷ [])) p out)
+
+  from-fresh : (s : List ℕ) → finish f (run f (start freshPlant) s) ≡ told [] freshPlant (cutLines s)
+  from-fresh s = holds s [] freshPlant []
+
+pub whole : WholeLaw
+whole f s = record { printed = ap (λ (st : State). st .printed) (from-fresh f s); plant = ap (λ (st : State). st .plant) (from-fresh f s) }
+
+-- ---- the calls that lines ask
+
+module _ (f : Figures) (ls : List (List ℕ)) where
+  after-request : (form : Form) (l : Line) (p : Plant) → ((q : Plant) → afterLines f q ls ≡ after f q (requests ls)) → afterLines f (askedOutcome f p form l .plant) ls ≡ after f p (requestOf form l (requests ls))
+  after-request (Asked call) l p h = h (askedOutcome f p (Asked call) l .plant)
+  after-request NotAForm l p h = h p
+
+pub after-requests : (f : Figures) (p : Plant) (ls : List (List ℕ)) → afterLines f p ls ≡ after f p (requests ls)
+unfolding afterLines requests givenBy
+after-requests f p [] = refl
+after-requests f p (l ∷ ls) = after-request f ls (readLine l .form) (readLine l) p (λ (q : Plant). after-requests f q ls)

@@ -1,0 +1,122 @@
+-- A session: document 01, "Lines in brackets", and what the program sludgeline prints.
+--
+--   cut, cutLines                an input cut into lines
+--   givenBy, answerOf, afterLine what a line gives on a record: its outcome, its answer with a newline, the record
+--   answers, afterLines          the same for a list of lines, each on the record that the one before left
+--   heldLine, printed            the held line with its newline, and all that is printed for an input
+--   requests                     the calls that a list of lines asks
+--   State, run, finish           the same byte by byte, with at most 1,025 bytes of the line that is not ended
+--   WholeLaw                     byte by byte, the answers are those of the lines. proofs/Laws/Session.antt proves it: whole
+--
+-- f is the set of figures; the program has the house set.
+use mathlib.Core.Bool.{cond}
+use mathlib.Core.List.{List, [], _∷_, _++_}
+use mathlib.Core.Path.{_≡_}
+use Prim.Native.Nat.{ℕ}
+use lib.Dec.{eqb}
+use lib.ListN.{take}
+use Rattle.interface.specs.declared.figures.Figures.{Figures}
+use Rattle.plant.specs.declared.record.Plant.{Plant}
+use Rattle.plant.specs.declared.answer.Request.{Request}
+use Rattle.plant.specs.declared.answer.Outcome.{Outcome}
+use Rattle.plant.specs.Record.{freshPlant}
+use Rattle.plant.specs.Held.{heldOf}
+use Rattle.lines.specs.declared.form.Form.{Form}
+use Rattle.lines.specs.declared.form.Form.the-variants.{Asked, NotAForm}
+use Rattle.lines.specs.declared.form.Line.{Line}
+use Rattle.lines.specs.Text.{newline}
+use Rattle.lines.specs.Form.{readLine}
+use Rattle.lines.specs.Answer.{heldText}
+use Rattle.lines.specs.Asking.{formOutcome, outcomeText}
+
+-- ---- lines
+
+-- a line that lacks its newline is a line, and nothing after a final newline is none
+abbrev pub lastLine : List ℕ → List (List ℕ)
+lastLine [] = []
+lastLine (b ∷ h) = (b ∷ h) ∷ []
+
+-- h is what the line has so far
+unfoldable pub cut : List ℕ → List ℕ → List (List ℕ)
+cut h [] = lastLine h
+cut h (b ∷ s) = cond (eqb b newline) (h ∷ cut [] s) (cut (h ++ (b ∷ [])) s)
+
+abbrev pub cutLines : List ℕ → List (List ℕ)
+cutLines s = cut [] s
+
+-- ---- what is printed
+
+unfoldable pub givenBy : Figures → Plant → List ℕ → Outcome
+givenBy f p l = formOutcome f p (readLine l)
+
+abbrev pub answerOf : Figures → Plant → List ℕ → List ℕ
+answerOf f p l = outcomeText (givenBy f p l) ++ (newline ∷ [])
+
+abbrev pub afterLine : Figures → Plant → List ℕ → Plant
+afterLine f p l = givenBy f p l .plant
+
+unfoldable pub answers : Figures → Plant → List (List ℕ) → List ℕ
+answers f p [] = []
+answers f p (l ∷ ls) = answerOf f p l ++ answers f (afterLine f p l) ls
+
+unfoldable pub afterLines : Figures → Plant → List (List ℕ) → Plant
+afterLines f p [] = p
+afterLines f p (l ∷ ls) = afterLines f (afterLine f p l) ls
+
+abbrev pub heldLine : Figures → Plant → List ℕ
+heldLine f p = heldText (heldOf f p) ++ (newline ∷ [])
+
+-- for an input, from a fresh record
+abbrev pub printed : Figures → List ℕ → List ℕ
+printed f s = answers f freshPlant (cutLines s) ++ heldLine f (afterLines f freshPlant (cutLines s))
+
+-- ---- the calls that lines ask
+
+abbrev pub requestOf : Form → Line → List Request → List Request
+requestOf (Asked call) l rs = record { call = call; sludge = l .sludge; digester = l .digester } ∷ rs
+requestOf NotAForm l rs = rs
+
+unfoldable pub requests : List (List ℕ) → List Request
+requests [] = []
+requests (l ∷ ls) = requestOf (readLine l .form) (readLine l) (requests ls)
+
+-- ---- byte by byte
+
+pub record State : Type 0 where
+  pub held : List ℕ
+  pub plant : Plant
+  pub printed : List ℕ
+
+abbrev pub start : Plant → State
+start p = record { held = []; plant = p; printed = [] }
+
+-- one byte over the limit is all that a refusal needs
+abbrev pub keep : List ℕ → List ℕ → List ℕ
+keep h s = take 1025 (h ++ s)
+
+abbrev pub ended : Figures → State → State
+ended f st = record { held = []; plant = afterLine f (st .plant) (st .held); printed = st .printed ++ answerOf f (st .plant) (st .held) }
+
+abbrev pub kept : State → List ℕ → State
+kept st s = record { held = keep (st .held) s; plant = st .plant; printed = st .printed }
+
+unfoldable pub run : Figures → State → List ℕ → State
+run f st [] = st
+run f st (b ∷ s) = run f (cond (eqb b newline) (ended f st) (kept st (b ∷ []))) s
+
+abbrev pub finishHeld : Figures → List ℕ → State → State
+finishHeld f [] st = st
+finishHeld f (b ∷ h) st = ended f st
+
+-- behind the last byte
+abbrev pub finish : Figures → State → State
+finish f st = finishHeld f (st .held) st
+
+-- ---- the claim
+
+pub record Whole (f : Figures) (s : List ℕ) (st : State) : Type 0 where
+  pub printed : st .printed ≡ answers f freshPlant (cutLines s)
+  pub plant : st .plant ≡ afterLines f freshPlant (cutLines s)
+
+abbrev pub WholeLaw : Type 0
+WholeLaw = (f : Figures) (s : List ℕ) → Whole f s (finish f (run f (start freshPlant) s))
