@@ -8,4 +8,5 @@ pub mod Buffer
 pub mod Answer
 pub mod Asking
 pub mod Session
+pub mod Blocks
 pub mod Examples

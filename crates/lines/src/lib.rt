@@ -1,6 +1,7 @@
 // The text layer.
 mod answer;
 mod asking;
+mod blocks;
 mod bytes;
 mod fields;
 mod form;
@@ -15,5 +16,6 @@ pub use asking::LineOutcome;
 pub use asking::answer_line;
 pub use asking::filled_part;
 pub use asking::held_line;
+pub use blocks::Place;
 pub use form::Form;
 pub use form::Line;

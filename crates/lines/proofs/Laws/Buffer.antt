@@ -2,11 +2,12 @@
 --
 --   put-byte, put-none, put-more, put-all   one byte, and a loop that copies
 --   put-then                                two writers, one behind the other, are one
+--   put-same                                the bytes under another name
 --   put-length                              the buffer keeps its length
 --   columns-then                            one column more
 --   answered, filled, answered-room         an answer at the start, the part that it fills, and its room
 use mathlib.Core.List.{List, [], _∷_, _++_, append-assoc}
-use mathlib.Core.Path.{_≡_, refl, sym, ap, _∙_}
+use mathlib.Core.Path.{_≡_, refl, sym, ap, subst, _∙_}
 use Prim.Native.Nat.{ℕ, _+_, _≤_, _<_}
 use native.Mathlib.Nat.{zero-add, add-zero, add-assoc}
 use native.Mathlib.Numerals.{add-one}
@@ -72,6 +73,9 @@ module _ {d : List ℕ} {at : ℕ} {a : List ℕ} {m : ℕ} {e : List ℕ} where
         next = omega (arith, p .next, q .next, length-append a b);
         bytes = q .bytes ∙ ap (λ (x : List ℕ). putAt x m b) (p .bytes) ∙ ap (λ (j : ℕ). putAt (putAt d at a) j b) (p .next) ∙ put-put d at a b (omega (arith, p .next, q .next));
       }
+
+  pub put-same : {b : List ℕ} → a ≡ b → Put d at a m e → Put d at b m e
+  put-same q p = subst (λ (s : List ℕ). Put d at s m e) q p
 
   pub put-length : Put d at a m e → m ≤ length d → length e ≡ length d
   put-length p h = ap length (p .bytes) ∙ length-put d at a (omega (arith, p .next))

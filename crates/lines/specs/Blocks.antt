@@ -1,0 +1,82 @@
+-- A session by blocks: how the program goes through what it has read.
+--
+--   Desk, desk            a place with its two lent buffers: the line that is not ended, and the answers that are not written
+--   fits, ready           the buffers have room for one line and one answer, and the block has bytes left
+--   gathered              the line's bytes of the block join those that are held
+--   answeredDesk          the held line is answered
+--   stepOf                through one newline, or to the block's end
+--   lastOf                behind the last byte of the input
+--   stateOf               the state of the session that a desk stands for
+--
+-- Each is defined for any place, any buffers and any block; what does not fit stays as it is.
+use mathlib.Core.Bool.{Bool, cond, _&&_}
+use mathlib.Core.List.{List}
+use Prim.Native.Nat.{ℕ, _+_, _-_}
+use lib.Dec.{ltb, leb, eqb}
+use lib.ListN.{length, take, drop}
+use Rattle.interface.specs.declared.figures.Figures.{Figures}
+use Rattle.plant.specs.declared.record.Plant.{Plant}
+use Rattle.lines.specs.declared.blocks.Place.{Place}
+use Rattle.lines.specs.Text.{newline, upTo}
+use Rattle.lines.specs.Buffer.{putAt}
+use Rattle.lines.specs.Session.{State, answerOf, afterLine}
+
+pub record Desk : Type 0 where
+  pub place : Place
+  pub line : List ℕ
+  pub out : List ℕ
+
+abbrev pub desk : Place → List ℕ → List ℕ → Desk
+desk p line out = record { place = p; line = line; out = out }
+
+abbrev pub placeAt : ℕ → ℕ → ℕ → Plant → Place
+placeAt used held at p = record { used = used; held = held; at = at; plant = p }
+
+-- an answer has at most 512 bytes, and its newline is one more
+unfoldable pub fits : ℕ → ℕ → ℕ → ℕ → Bool
+fits held at line out = leb held 1025 && eqb line 1025 && leb 513 (out - at)
+
+abbrev pub deskFits : Desk → Bool
+deskFits k = fits (k .place .held) (k .place .at) (length (k .line)) (length (k .out))
+
+abbrev pub ready : List ℕ → Desk → Bool
+ready block k = ltb (k .place .used) (length block) && deskFits k
+
+-- as many bytes as there is room for in the line's buffer
+abbrev pub room : ℕ → List ℕ → List ℕ
+room held s = take (1025 - held) s
+
+-- the line's bytes s join those that are held, and the block is used up to e
+abbrev pub gathered : Place → List ℕ → List ℕ → List ℕ → ℕ → Desk
+gathered p line out s e =
+    desk (placeAt e (p .held + length (room (p .held) s)) (p .at) (p .plant)) (putAt line (p .held) (room (p .held) s)) out
+
+-- the line l is answered, and the block is used up to e
+abbrev pub answeredDesk : Figures → Place → List ℕ → List ℕ → List ℕ → ℕ → Desk
+answeredDesk f p line out l e =
+    desk (placeAt e 0 (p .at + length (answerOf f (p .plant) l)) (afterLine f (p .plant) l)) line (putAt out (p .at) (answerOf f (p .plant) l))
+
+abbrev pub ended : Figures → Desk → Desk
+ended f k = answeredDesk f (k .place) (k .line) (k .out) (take (k .place .held) (k .line)) (k .place .used + 1)
+
+-- s is what the block has of the line, up to its place e
+abbrev pub through : Figures → List ℕ → Desk → List ℕ → ℕ → Desk
+through f block k s e =
+    cond (ltb e (length block)) (ended f (gathered (k .place) (k .line) (k .out) s e)) (gathered (k .place) (k .line) (k .out) s e)
+
+abbrev pub lineIn : List ℕ → ℕ → List ℕ
+lineIn block used = upTo newline (drop used block)
+
+unfoldable pub stepOf : Figures → List ℕ → Desk → Desk
+stepOf f block k =
+    cond (ready block k) (through f block k (lineIn block (k .place .used)) (k .place .used + length (lineIn block (k .place .used)))) k
+
+-- a line that lacks its newline is answered
+unfoldable pub lastOf : Figures → Desk → Desk
+lastOf f k =
+    cond (ltb 0 (k .place .held) && deskFits k)
+    (answeredDesk f (k .place) (k .line) (k .out) (take (k .place .held) (k .line)) (k .place .used))
+    k
+
+abbrev pub stateOf : Desk → State
+stateOf k = record { held = take (k .place .held) (k .line); plant = k .place .plant; printed = take (k .place .at) (k .out) }

@@ -1,0 +1,69 @@
+// A session by blocks: each step takes it through one newline, or to the block's end.
+ghost use mathlib.Core.Path.{_≡_};
+ghost use Prim.Native.Nat.{_+_, _-_, _≤_};
+ghost use lib.ListN.{length, take};
+ghost use Rattle.interface.specs.Figures.{house};
+ghost use Rattle.lines.specs.Buffer.{Put};
+ghost use Rattle.lines.specs.Session.{answerOf, afterLine};
+ghost use Rattle.lines.specs.Blocks.{fits, room, desk, stepOf, lastOf, answeredDesk};
+use crate::asking::answer_line;
+use crate::bytes::place;
+use crate::put::put_byte;
+use crate::put::put_bytes;
+use plant::Plant;
+
+// What is carried from block to block: how many bytes of the block are used, how many are held of the line that is not
+// ended, how many answer bytes are not written, and the record.
+pub struct Place {
+    pub used: usize,
+    pub held: usize,
+    pub at: usize,
+    pub plant: Plant,
+}
+
+// Whether the buffers, by their lengths, have room for one line and one answer.
+fn has_room(held: usize, at: usize, line: usize, out: usize) -> bool
+    ensures { λ r. ⌜ r ≡ fits held at line out ⌝ }
+{
+    if 1025 < held {
+        return false;
+    }
+    if line != 1025 {
+        return false;
+    }
+    if out < at {
+        return false;
+    }
+    513 <= out - at
+}
+
+// As much of s as there is room for joins the held bytes.
+fn keep_bytes(line: &mut [u8], held: usize, s: &[u8]) -> usize
+    requires { ⌜ (length (now line) ≡ 1025) × (held ≤ 1025) ⌝ }
+    ensures { λ r. ⌜ Put (now (line .entry)) held (room held (now (s .entry))) r (now (line .exit)) ⌝ }
+{
+    let n = 1025 - held;
+    if s.len() <= n {
+        return put_bytes(line, held, s);
+    }
+    put_bytes(line, held, &s[..n])
+}
+
+// The record after a line, and the place behind its answer.
+pub struct Gathered {
+    pub at: usize,
+    pub plant: Plant,
+}
+
+// The answer to a line and its newline join the answers that are not written.
+fn gather_answer(plant: Plant, line: &[u8], out: &mut [u8], at: usize) -> Gathered
+    requires { ⌜ at + 513 ≤ length (now out) ⌝ }
+    ensures { λ r. ⌜ (r .plant ≡ afterLine house plant (now (line .entry))) × (Put (now (out .entry)) at (answerOf house plant (now (line .entry))) (r .at) (now (out .exit))) ⌝ }
+{
+    let a = answer_line(plant, line, &mut out[at..]);
+    let outcome = a.outcome;
+    let next = outcome.plant;
+    let end = at + a.length;
+    let k = put_byte(out, end, 10);
+    Gathered { at: k, plant: next }
+}
