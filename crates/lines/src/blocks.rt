@@ -1,11 +1,11 @@
 // A session by blocks: each step takes it through one newline, or to the block's end.
 ghost use mathlib.Core.Path.{_≡_};
-ghost use Prim.Native.Nat.{_+_, _-_, _≤_};
+ghost use Prim.Native.Nat.{_+_, _-_, _≤_, _<_};
 ghost use lib.ListN.{length, take};
 ghost use Rattle.interface.specs.Figures.{house};
 ghost use Rattle.lines.specs.Buffer.{Put};
 ghost use Rattle.lines.specs.Session.{answerOf, afterLine};
-ghost use Rattle.lines.specs.Blocks.{fits, room, desk, stepOf, lastOf, answeredDesk};
+ghost use Rattle.lines.specs.Blocks.{fits, room, desk, lineIn, through, stepOf, lastOf};
 use crate::asking::answer_line;
 use crate::bytes::place;
 use crate::put::put_byte;
@@ -19,6 +19,68 @@ pub struct Place {
     pub held: usize,
     pub at: usize,
     pub plant: Plant,
+}
+
+// Goes through one newline, or to the block's end. A place or buffers that do not fit stay as they are.
+pub fn step(block: &[u8], line: &mut [u8], out: &mut [u8], p: Place) -> Place
+    ensures { λ r. ⌜ desk r (now (line .exit)) (now (out .exit)) ≡ stepOf house (now (block .entry)) (desk p (now (line .entry)) (now (out .entry))) ⌝ }
+{
+    if block.len() <= p.used {
+        return p;
+    }
+    if has_room(p.held, p.at, line.len(), out.len()) {
+        return step_through(block, line, out, p);
+    }
+    p
+}
+
+// The same where all fits.
+fn step_through(block: &[u8], line: &mut [u8], out: &mut [u8], p: Place) -> Place
+    requires { ⌜ (p .used < length (now block)) × (p .held ≤ 1025) × (length (now line) ≡ 1025) × (p .at + 513 ≤ length (now out)) ⌝ }
+    ensures { λ r. ⌜ desk r (now (line .exit)) (now (out .exit)) ≡ through house (now (block .entry)) (desk p (now (line .entry)) (now (out .entry))) (lineIn (now (block .entry)) (p .used)) (p .used + length (lineIn (now (block .entry)) (p .used))) ⌝ }
+{
+    let from = p.used;
+    let plant = p.plant;
+    let e = place(block, from, 10);
+    let held = keep_bytes(line, p.held, &block[from..e]);
+    if e < block.len() {
+        let g = gather_answer(plant, &line[..held], out, p.at);
+        let next = g.plant;
+        return Place {
+            used: e + 1,
+            held: 0,
+            at: g.at,
+            plant: next,
+        };
+    }
+    Place {
+        used: e,
+        held,
+        at: p.at,
+        plant,
+    }
+}
+
+// Behind the last byte of the input: a line that lacks its newline is answered.
+pub fn last_line(line: &mut [u8], out: &mut [u8], p: Place) -> Place
+    ensures { λ r. ⌜ desk r (now (line .exit)) (now (out .exit)) ≡ lastOf house (desk p (now (line .entry)) (now (out .entry))) ⌝ }
+{
+    if p.held == 0 {
+        return p;
+    }
+    if has_room(p.held, p.at, line.len(), out.len()) {
+        let held = p.held;
+        let plant = p.plant;
+        let g = gather_answer(plant, &line[..held], out, p.at);
+        let next = g.plant;
+        return Place {
+            used: p.used,
+            held: 0,
+            at: g.at,
+            plant: next,
+        };
+    }
+    p
 }
 
 // Whether the buffers, by their lengths, have room for one line and one answer.

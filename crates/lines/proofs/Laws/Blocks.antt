@@ -1,24 +1,36 @@
 -- Laws of a session by blocks. Assumes nothing.
 --
---   part-put          an answer written into the part of a buffer from a place on
---   answer-gathered   an answer and its newline behind the others
-use mathlib.Core.Bool.{Bool, true, false, cond}
+--   part-put                              an answer written into the part of a buffer from a place on
+--   answer-gathered                       an answer and its newline behind the others
+--   part-line                             what a block has of a line, as a part of the block
+--   room-fits                             held bytes stay within the line's buffer
+--   fits-true                             what the test of the buffers' room tells
+--   through-newline, through-end          a step where all fits: a line is answered, or its bytes are held
+--   step-used, step-unfit, step-ready     a step: the block is used, the buffers have no room, or all fits
+--   last-none, last-unfit, last-some      behind the last byte: no line, no room, or a line that lacks its newline
+use mathlib.Core.Bool.{Bool, true, false, cond, _&&_}
 use mathlib.Core.List.{List, [], _∷_, _++_, append-assoc, append-nil}
 use mathlib.Core.Path.{_≡_, refl, sym, ap, subst, _∙_}
 use Prim.Native.Nat.{ℕ, _+_, _-_, _≤_, _<_}
 use native.Mathlib.Omega.{arith}
-use lib.ListN.{length, take, drop, length-drop, drop-of-length-le}
+use lib.Dec.{ltb, leb, eqb}
+use lib.ListN.{length, take, drop, length-take, length-drop, drop-of-length-le}
 use lib.Seq.{drop-drop}
+use borrow.Author.Tests.{lt-ltb, le-ltb, leb-true, eqb-true}
 use Rattle.interface.specs.declared.figures.Figures.{Figures}
+use Rattle.interface.proofs.Laws.Columns.{both-true}
 use Rattle.plant.specs.declared.record.Plant.{Plant}
 use Rattle.plant.specs.declared.answer.Outcome.{Outcome}
 use Rattle.lines.specs.declared.asking.LineOutcome.{LineOutcome}
-use Rattle.lines.specs.Text.{newline}
+use Rattle.lines.specs.declared.blocks.Place.{Place}
+use Rattle.lines.specs.declared.blocks.Gathered.{Gathered}
+use Rattle.lines.specs.Text.{newline, upTo}
 use Rattle.lines.specs.Buffer.{putAt, Put, Answered}
 use Rattle.lines.specs.Form.{readLine}
 use Rattle.lines.specs.Asking.{formOutcome, outcomeText, lineText, LineAnswered}
 use Rattle.lines.specs.Session.{givenBy, answerOf, afterLine}
-use Rattle.lines.proofs.Laws.Text.{rest-of}
+use Rattle.lines.specs.Blocks.{Desk, desk, placeAt, fits, deskFits, ready, room, gathered, answeredDesk, ended, through, lineIn, stepOf, lastOf}
+use Rattle.lines.proofs.Laws.Text.{rest-of, upTo-take}
 use Rattle.lines.proofs.Laws.Buffer.{put-then}
 use Rattle.lines.proofs.Laws.Answer.{fitting-all}
 use Rattle.lines.proofs.Laws.Asking.{outcome-full}
@@ -55,3 +67,98 @@ module _ {f : Figures} {p : Plant} {l : List ℕ} (d : List ℕ) (at : ℕ) {r :
         ap (λ (o : Outcome). o .plant) (given h b),
         put-then (part-put d at t) q (omega (arith, q .next, t .within)),
       )
+
+-- ---- a step where all fits
+
+pub part-line : (s : List ℕ) (a e : ℕ) → e ≡ a + length (lineIn s a) → take (e - a) (drop a s) ≡ lineIn s a
+part-line s a e h =
+    let n : e - a ≡ length (lineIn s a) = omega (arith, h) in
+    ap (λ (k : ℕ). take k (drop a s)) n ∙ upTo-take newline (drop a s)
+
+pub room-fits : (line s : List ℕ) (held : ℕ) {h : ℕ} {line2 : List ℕ} → held ≤ 1025 → Put line held (room held s) h line2 → h ≤ 1025
+room-fits line s held l k = omega (arith, k .next, length-take (1025 - held) s)
+
+-- a line is answered: the place, the line's buffer and the answers
+answered-desk : (f : Figures) (p : Place) (line out l : List ℕ) (g : Gathered) {out2 : List ℕ} (e : ℕ) → g .plant ≡ afterLine f (p .plant) l → Put out (p .at) (answerOf f (p .plant) l) (g .at) out2
+    → desk (placeAt e 0 (g .at) (g .plant)) line out2 ≡ answeredDesk f p line out l e
+answered-desk f p line out l g e q o = λ i. record {
+  place = record { used = e; held = 0; at = o .next i; plant = q i };
+  line = line;
+  out = o .bytes i;
+}
+
+-- bytes are held: the place and the line's buffer
+gathered-desk : (p : Place) (line out s : List ℕ) {h : ℕ} {line2 : List ℕ} {e u : ℕ} → e ≡ u → Put line (p .held) (room (p .held) s) h line2
+    → desk (placeAt e h (p .at) (p .plant)) line2 out ≡ gathered p line out s u
+gathered-desk p line out s t k = λ i. record {
+  place = record { used = t i; held = k .next i; at = p .at; plant = p .plant };
+  line = k .bytes i;
+  out = out;
+}
+
+module _ (f : Figures) (block line out s : List ℕ) (p : Place) {e h : ℕ} {line2 : List ℕ} (t : e ≡ p .used + length s) (k : Put line (p .held) (room (p .held) s) h line2) where
+  pub through-end : length block ≤ e → desk (placeAt e h (p .at) (p .plant)) line2 out ≡ through f block (desk p line out) s (p .used + length s)
+  through-end n =
+      gathered-desk p line out s t k
+      ∙ sym (ap (λ b. cond b (ended f (gathered p line out s (p .used + length s))) (gathered p line out s (p .used + length s))) (le-ltb (p .used + length s) (length block) (omega (arith, t))))
+
+  pub through-newline : (g : Gathered) {out2 : List ℕ} → e < length block → g .plant ≡ afterLine f (p .plant) (take h line2) → Put out (p .at) (answerOf f (p .plant) (take h line2)) (g .at) out2
+      → desk (placeAt (e + 1) 0 (g .at) (g .plant)) line2 out2 ≡ through f block (desk p line out) s (p .used + length s)
+  through-newline g n q o =
+      answered-desk f p line2 out (take h line2) g (e + 1) q o
+      ∙ ap (ended f) (gathered-desk p line out s t k)
+      ∙ sym (ap (λ b. cond b (ended f (gathered p line out s (p .used + length s))) (gathered p line out s (p .used + length s))) (lt-ltb (p .used + length s) (length block) (omega (arith, t))))
+
+-- ---- any step
+
+pub fits-true : (held at line out : ℕ) → fits held at line out ≡ true → (held ≤ 1025) × (line ≡ 1025) × (at + 513 ≤ out)
+unfolding fits
+fits-true held at line out e =
+    let a = both-true (leb held 1025 && eqb line 1025) (leb 513 (out - at)) e in
+    let b = both-true (leb held 1025) (eqb line 1025) (a .0) in
+    let c = leb-true 513 (out - at) (a .1) in
+    (leb-true held 1025 (b .0), eqb-true line 1025 (b .1), omega arith)
+
+and-unfit : (a b : Bool) → b ≡ false → (a && b) ≡ false
+and-unfit true b h = h
+and-unfit false b h = refl
+
+module _ (f : Figures) (block : List ℕ) (k : Desk) where
+  abbrev goes : Desk
+  goes = through f block k (lineIn block (k .place .used)) (k .place .used + length (lineIn block (k .place .used)))
+
+  pub step-used : length block ≤ k .place .used → k ≡ stepOf f block k
+  unfolding stepOf
+  step-used h = sym (ap (λ b. cond (b && deskFits k) goes k) (le-ltb (k .place .used) (length block) h))
+
+  pub step-unfit : deskFits k ≡ false → k ≡ stepOf f block k
+  unfolding stepOf
+  step-unfit h = sym (ap (λ b. cond b goes k) (and-unfit (ltb (k .place .used) (length block)) (deskFits k) h))
+
+  pub step-ready : k .place .used < length block → deskFits k ≡ true → goes ≡ stepOf f block k
+  unfolding stepOf
+  step-ready h e = sym (ap (λ b. cond (b && deskFits k) goes k) (lt-ltb (k .place .used) (length block) h) ∙ ap (λ b. cond b goes k) e)
+
+-- ---- behind the last byte
+
+module _ (f : Figures) (p : Place) (line out : List ℕ) where
+  abbrev k : Desk
+  k = desk p line out
+
+  abbrev answered : Desk
+  answered = answeredDesk f p line out (take (p .held) line) (p .used)
+
+  pub last-none : p .held ≡ 0 → k ≡ lastOf f k
+  unfolding lastOf
+  last-none h = sym (ap (λ b. cond (b && deskFits k) answered k) (le-ltb 0 (p .held) (omega (arith, h))))
+
+  pub last-unfit : deskFits k ≡ false → k ≡ lastOf f k
+  unfolding lastOf
+  last-unfit h = sym (ap (λ b. cond b answered k) (and-unfit (ltb 0 (p .held)) (deskFits k) h))
+
+  pub last-some : (g : Gathered) {out2 : List ℕ} → (p .held ≡ 0 → ⊥) → deskFits k ≡ true → g .plant ≡ afterLine f (p .plant) (take (p .held) line) → Put out (p .at) (answerOf f (p .plant) (take (p .held) line)) (g .at) out2
+      → desk (placeAt (p .used) 0 (g .at) (g .plant)) line out2 ≡ lastOf f k
+  unfolding lastOf
+  last-some g n h q o =
+      answered-desk f p line out (take (p .held) line) g (p .used) q o
+      ∙ sym (ap (λ b. cond (b && deskFits k) answered k) (lt-ltb 0 (p .held) (omega (arith, n))) ∙ ap (λ b. cond b answered k) h)
