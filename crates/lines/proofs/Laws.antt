@@ -8,5 +8,7 @@ pub mod Buffer
 pub mod Answer
 pub mod Asking
 pub mod Session
+pub mod File
 pub mod Blocks
+pub mod Run
 pub mod Examples

@@ -6,20 +6,25 @@
 --   heldLine, printed            the held line with its newline, and all that is printed for an input
 --   requests                     the calls that a list of lines asks
 --   State, run, finish           the same byte by byte, with at most 1,025 bytes of the line that is not ended
+--   FileLaw                      for any input, its accepted lines' sums balance against its held line. proofs/Laws/File.antt proves it: file
 --   WholeLaw                     byte by byte, the answers are those of the lines. proofs/Laws/Session.antt proves it: whole
 --
 -- f is the set of figures; the program has the house set.
 use mathlib.Core.Bool.{cond}
 use mathlib.Core.List.{List, [], _∷_, _++_}
 use mathlib.Core.Path.{_≡_}
-use Prim.Native.Nat.{ℕ}
+use Prim.Native.Nat.{ℕ, _+_}
 use lib.Dec.{eqb}
 use lib.ListN.{take}
 use Rattle.interface.specs.declared.figures.Figures.{Figures}
+use Rattle.interface.specs.Figures.{Permitted}
+use Rattle.interface.specs.Totals.{asm1Cod, asm1Tkn, asm1Oxygen, asm1Nitrate}
 use Rattle.plant.specs.declared.record.Plant.{Plant}
 use Rattle.plant.specs.declared.answer.Request.{Request}
 use Rattle.plant.specs.declared.answer.Outcome.{Outcome}
 use Rattle.plant.specs.Record.{freshPlant}
+use Rattle.plant.specs.declared.holding.HeldTotals.{HeldTotals}
+use Rattle.plant.specs.Balance.{received, released, burnt, gas, stripped, oxygenReduced, nitrateReduced}
 use Rattle.plant.specs.Held.{heldOf}
 use Rattle.lines.specs.declared.form.Form.{Form}
 use Rattle.lines.specs.declared.form.Form.the-variants.{Asked, NotAForm}
@@ -117,6 +122,17 @@ finish f st = finishHeld f (st .held) st
 pub record Whole (f : Figures) (s : List ℕ) (st : State) : Type 0 where
   pub printed : st .printed ≡ answers f freshPlant (cutLines s)
   pub plant : st .plant ≡ afterLines f freshPlant (cutLines s)
+
+-- the sums over an input's accepted lines against its held line, which is never a refusal
+pub record FileBalanced (f : Figures) (rs : List Request) (held : HeldTotals) : Type 0 where
+  pub told : held .refusal ≡ 0
+  pub cod : received f rs asm1Cod ≡ held .cod .0 + released f rs asm1Cod + burnt f rs + gas f rs + stripped f rs
+  pub tkn : received f rs (asm1Tkn f) ≡ held .tkn .0 + released f rs (asm1Tkn f)
+  pub oxygen : received f rs asm1Oxygen ≡ held .oxygen .0 + released f rs asm1Oxygen + oxygenReduced f rs
+  pub nitrate : received f rs asm1Nitrate ≡ held .nitrate .0 + released f rs asm1Nitrate + nitrateReduced f rs
+
+abbrev pub FileLaw : Type 0
+FileLaw = (f : Figures) → Permitted f → (s : List ℕ) → FileBalanced f (requests (cutLines s)) (heldOf f (afterLines f freshPlant (cutLines s)))
 
 abbrev pub WholeLaw : Type 0
 WholeLaw = (f : Figures) (s : List ℕ) → Whole f s (finish f (run f (start freshPlant) s))
