@@ -24,6 +24,7 @@ pub struct Place {
 // Goes through one newline, or to the block's end. A place or buffers that do not fit stay as they are.
 pub fn step(block: &[u8], line: &mut [u8], out: &mut [u8], p: Place) -> Place
     ensures { λ r. ⌜ desk r (now (line .exit)) (now (out .exit)) ≡ stepOf house (now (block .entry)) (desk p (now (line .entry)) (now (out .entry))) ⌝ }
+    ensures { λ r. ⌜ (p .at ≤ length (now (out .entry)) → r .at ≤ length (now (out .entry))) ⌝ }
 {
     if block.len() <= p.used {
         return p;
@@ -38,6 +39,7 @@ pub fn step(block: &[u8], line: &mut [u8], out: &mut [u8], p: Place) -> Place
 fn step_through(block: &[u8], line: &mut [u8], out: &mut [u8], p: Place) -> Place
     requires { ⌜ (p .used < length (now block)) × (p .held ≤ 1025) × (length (now line) ≡ 1025) × (p .at + 513 ≤ length (now out)) ⌝ }
     ensures { λ r. ⌜ desk r (now (line .exit)) (now (out .exit)) ≡ through house (now (block .entry)) (desk p (now (line .entry)) (now (out .entry))) (lineIn (now (block .entry)) (p .used)) (p .used + length (lineIn (now (block .entry)) (p .used))) ⌝ }
+    ensures { λ r. ⌜ r .at ≤ length (now (out .entry)) ⌝ }
 {
     let from = p.used;
     let plant = p.plant;
@@ -64,6 +66,7 @@ fn step_through(block: &[u8], line: &mut [u8], out: &mut [u8], p: Place) -> Plac
 // Behind the last byte of the input: a line that lacks its newline is answered.
 pub fn last_line(line: &mut [u8], out: &mut [u8], p: Place) -> Place
     ensures { λ r. ⌜ desk r (now (line .exit)) (now (out .exit)) ≡ lastOf house (desk p (now (line .entry)) (now (out .entry))) ⌝ }
+    ensures { λ r. ⌜ (p .at ≤ length (now (out .entry)) → r .at ≤ length (now (out .entry))) ⌝ }
 {
     if p.held == 0 {
         return p;
@@ -121,6 +124,7 @@ pub struct Gathered {
 fn gather_answer(plant: Plant, line: &[u8], out: &mut [u8], at: usize) -> Gathered
     requires { ⌜ at + 513 ≤ length (now out) ⌝ }
     ensures { λ r. ⌜ (r .plant ≡ afterLine house plant (now (line .entry))) × (Put (now (out .entry)) at (answerOf house plant (now (line .entry))) (r .at) (now (out .exit))) ⌝ }
+    ensures { λ r. ⌜ r .at ≤ at + 513 ⌝ }
 {
     let a = answer_line(plant, line, &mut out[at..]);
     let outcome = a.outcome;

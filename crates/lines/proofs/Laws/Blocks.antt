@@ -60,13 +60,11 @@ module _ {f : Figures} {p : Plant} {l : List ℕ} (d : List ℕ) (at : ℕ) {r :
   text h a = subst (λ (s : List ℕ). Answered (drop at d) s (r .length) e) (fitting-all (length (drop at d)) _ (omega (arith, length-drop at d))) (a .text)
 
   pub answer-gathered : {k : ℕ} {g : List ℕ} → at + 513 ≤ length d → LineAnswered f p l (take (length d - at) (drop at d)) r e → Put (rejoined d at e) (at + r .length) (newline ∷ []) k g
-      → (r .outcome .plant ≡ afterLine f p l) × Put d at (answerOf f p l) k g
+      → ((r .outcome .plant ≡ afterLine f p l) × Put d at (answerOf f p l) k g) × (k ≤ at + 513)
   answer-gathered h a q =
       let b = subst (λ (x : List ℕ). LineAnswered f p l x r e) (rest-of d at) a in
-      let t = text h b in (
-        ap (λ (o : Outcome). o .plant) (given h b),
-        put-then (part-put d at t) q (omega (arith, q .next, t .within)),
-      )
+      let t = text h b in
+      ((ap (λ (o : Outcome). o .plant) (given h b), put-then (part-put d at t) q (omega (arith, q .next, t .within))), omega (arith, q .next, t .within))
 
 -- ---- a step where all fits
 

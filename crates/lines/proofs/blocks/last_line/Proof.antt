@@ -8,7 +8,7 @@ use Rattle.lines.proofs.blocks.last_line.Statement.{statement}
 use Rattle.lines.proofs.blocks.last_line.Tie as tie
 
 returns : tie.Need-returns
-returns c = last-none _ _ _ _ (c .if1 .taken)
+returns c = (last-none _ _ _ _ (c .if1 .taken), λ b. b)
 
 has-room-requires : tie.Need-has-room-requires
 has-room-requires c κs = search needs
@@ -29,10 +29,10 @@ same-length-2 : tie.Need-same-length-2
 same-length-2 c = search needs
 
 returns-2 : tie.Need-returns-2
-returns-2 c = last-some _ (c .before .before .before .before .before .before .before .before .before .before .before .before .before .args .p) _ _ (c .before .before .before .gather-answer .result) (c .before .before .before .before .before .before .before .before .before .if1 .left) (sym (c .before .before .before .before .before .before .before .before .has-room .ensures) ∙ c .before .before .before .before .before .before .before .if2 .taken) (c .before .before .before .gather-answer .ensures .0) (c .before .before .before .gather-answer .ensures .1)
+returns-2 c = let t = fits-true _ _ _ _ (sym (c .before .before .before .before .before .before .before .before .has-room .ensures) ∙ c .before .before .before .before .before .before .before .if2 .taken) in (last-some _ (c .before .before .before .before .before .before .before .before .before .before .before .before .before .args .p) _ _ (c .before .before .before .gather-answer .result) (c .before .before .before .before .before .before .before .before .before .if1 .left) (sym (c .before .before .before .before .before .before .before .before .has-room .ensures) ∙ c .before .before .before .before .before .before .before .if2 .taken) (c .before .before .before .gather-answer .ensures .0 .0) (c .before .before .before .gather-answer .ensures .0 .1), λ b. omega (arith, c .before .before .before .gather-answer .ensures .1, t .2))
 
 returns-3 : tie.Need-returns-3
-returns-3 c = last-unfit _ _ _ _ (sym (c .before .has-room .ensures) ∙ c .if2 .left)
+returns-3 c = (last-unfit _ _ _ _ (sym (c .before .has-room .ensures) ∙ c .if2 .left), λ b. b)
 
 pub last-line-spec : {M : Type 1} → statement M
 last-line-spec =

@@ -48,7 +48,7 @@ returns c =
     let a = c .before .before .before .before .before .before .before .before .before .before .before .before .before .before .before .before .before .args in
     let t = c .before .before .before .before .before .before .before .before .before .before .before .before .place .ensures .0 in
     let k = put-same (ap (room (a .p .held)) (part-line (a .block .now) (a .p .used) (c .before .before .before .before .before .before .before .before .before .before .before .before .place .result) t)) (c .before .before .before .before .before .before .before .before .before .keep-bytes .ensures) in
-    through-newline house (a .block .now) (a .line .now) (a .out .now) (lineIn (a .block .now) (a .p .used)) (a .p) t k (c .before .before .before .gather-answer .result) (c .before .before .before .before .before .before .if1 .taken) (c .before .before .before .gather-answer .ensures .0) (c .before .before .before .gather-answer .ensures .1)
+    (through-newline house (a .block .now) (a .line .now) (a .out .now) (lineIn (a .block .now) (a .p .used)) (a .p) t k (c .before .before .before .gather-answer .result) (c .before .before .before .before .before .before .if1 .taken) (c .before .before .before .gather-answer .ensures .0 .0) (c .before .before .before .gather-answer .ensures .0 .1), omega (arith, c .before .before .before .gather-answer .ensures .1, c .before .before .before .before .before .before .before .before .before .before .before .before .before .before .before .before .before .pre))
 
 same-length-3 : tie.Need-same-length-3
 same-length-3 c = search needs
@@ -58,7 +58,7 @@ returns-2 c =
     let a = c .before .before .before .before .before .before .before .before .before .before .before .args in
     let t = c .before .before .before .before .before .before .place .ensures .0 in
     let k = put-same (ap (room (a .p .held)) (part-line (a .block .now) (a .p .used) (c .before .before .before .before .before .before .place .result) t)) (c .before .before .before .keep-bytes .ensures) in
-    through-end house (a .block .now) (a .line .now) (a .out .now) (lineIn (a .block .now) (a .p .used)) (a .p) t k (omega arith)
+    (through-end house (a .block .now) (a .line .now) (a .out .now) (lineIn (a .block .now) (a .p .used)) (a .p) t k (omega arith), omega arith)
 
 pub step-through-spec : {M : Type 1} → statement M
 step-through-spec =
