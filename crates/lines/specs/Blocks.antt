@@ -5,13 +5,14 @@
 --   gathered              the line's bytes of the block join those that are held
 --   answeredDesk          the held line is answered
 --   stepOf                through one newline, or to the block's end
+--   stepsOf, blockOf      step by step, until the block is used or there is no room for an answer
 --   lastOf                behind the last byte of the input
 --   stateOf               the state of the session that a desk stands for
 --
 -- Each is defined for any place, any buffers and any block; what does not fit stays as it is.
 use mathlib.Core.Bool.{Bool, cond, _&&_}
 use mathlib.Core.List.{List}
-use Prim.Native.Nat.{ℕ, _+_, _-_}
+use Prim.Native.Nat.{ℕ, zero, suc, _+_, _-_}
 use lib.Dec.{ltb, leb, eqb}
 use lib.ListN.{length, take, drop}
 use Rattle.interface.specs.declared.figures.Figures.{Figures}
@@ -70,6 +71,14 @@ lineIn block used = upTo newline (drop used block)
 unfoldable pub stepOf : Figures → List ℕ → Desk → Desk
 stepOf f block k =
     cond (ready block k) (through f block k (lineIn block (k .place .used)) (k .place .used + length (lineIn block (k .place .used)))) k
+
+-- steps; as many as the block has bytes go as far as can be
+unfoldable pub stepsOf : Figures → List ℕ → ℕ → Desk → Desk
+stepsOf f block zero k = k
+stepsOf f block (suc n) k = stepsOf f block n (stepOf f block k)
+
+abbrev pub blockOf : Figures → List ℕ → Desk → Desk
+blockOf f block k = stepsOf f block (length block) k
 
 -- a line that lacks its newline is answered
 unfoldable pub lastOf : Figures → Desk → Desk

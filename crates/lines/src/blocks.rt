@@ -1,11 +1,13 @@
 // A session by blocks: each step takes it through one newline, or to the block's end.
 ghost use mathlib.Core.Path.{_≡_};
 ghost use Prim.Native.Nat.{_+_, _-_, _≤_, _<_};
+ghost use mathlib.Core.Bool.{_&&_};
+ghost use lib.Dec.{ltb};
 ghost use lib.ListN.{length, take};
 ghost use Rattle.interface.specs.Figures.{house};
 ghost use Rattle.lines.specs.Buffer.{Put};
 ghost use Rattle.lines.specs.Session.{answerOf, afterLine};
-ghost use Rattle.lines.specs.Blocks.{fits, room, desk, lineIn, through, stepOf, lastOf};
+ghost use Rattle.lines.specs.Blocks.{fits, room, desk, lineIn, through, stepOf, blockOf, lastOf};
 use crate::asking::answer_line;
 use crate::bytes::place;
 use crate::put::put_byte;
@@ -19,6 +21,28 @@ pub struct Place {
     pub held: usize,
     pub at: usize,
     pub plant: Plant,
+}
+
+// Goes through a block, until it is used or there is no room for an answer.
+pub fn answer_block(block: &[u8], line: &mut [u8], out: &mut [u8], p: Place) -> Place
+    ensures { λ r. ⌜ desk r (now (line .exit)) (now (out .exit)) ≡ blockOf house (now (block .entry)) (desk p (now (line .entry)) (now (out .entry))) ⌝ }
+    ensures { λ r. ⌜ (p .at ≤ length (now (out .entry)) → r .at ≤ length (now (out .entry))) ⌝ }
+{
+    let mut q = p;
+    while is_ready(block.len(), line.len(), out.len(), q) {
+        q = step(block, line, out, q);
+    }
+    q
+}
+
+// Whether a block has bytes left and the buffers have room, by their lengths.
+fn is_ready(block: usize, line: usize, out: usize, p: Place) -> bool
+    ensures { λ r. ⌜ r ≡ (ltb (p .used) block && fits (p .held) (p .at) line out) ⌝ }
+{
+    if block <= p.used {
+        return false;
+    }
+    has_room(p.held, p.at, line, out)
 }
 
 // Goes through one newline, or to the block's end. A place or buffers that do not fit stay as they are.

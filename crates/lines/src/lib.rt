@@ -17,6 +17,7 @@ pub use asking::answer_line;
 pub use asking::filled_part;
 pub use asking::held_line;
 pub use blocks::Place;
+pub use blocks::answer_block;
 pub use blocks::last_line;
 pub use blocks::step;
 pub use form::Form;

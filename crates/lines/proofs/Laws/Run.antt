@@ -5,6 +5,8 @@
 --   taken-put       the bytes up to the place behind those that were put
 --   step-state      a step takes the session's state through the bytes that it used
 --   step-bounds     a step that all fits uses some bytes, and no more than the block has
+--   block-step      a step more changes nothing of where a block's steps end
+--   block-done      where no step can be taken, they have ended
 --   last-state      behind the last byte, the session is finished
 use mathlib.Core.Bool.{Bool, true, false, cond, _&&_}
 use mathlib.Core.List.{List, [], _∷_, _++_, append-assoc, append-nil}
@@ -24,10 +26,10 @@ use Rattle.lines.specs.Text.{newline, upTo}
 use Rattle.lines.specs.Buffer.{putAt}
 use Rattle.lines.specs.Session as session
 use Rattle.lines.specs.Session.{State, keep, kept, run, finish, finishHeld, answerOf, afterLine}
-use Rattle.lines.specs.Blocks.{Desk, desk, placeAt, fits, deskFits, ready, room, gathered, answeredDesk, ended, through, lineIn, stepOf, lastOf, stateOf}
+use Rattle.lines.specs.Blocks.{Desk, desk, placeAt, fits, deskFits, ready, room, gathered, answeredDesk, ended, through, lineIn, stepOf, stepsOf, blockOf, lastOf, stateOf}
 use Rattle.lines.proofs.Laws.Text.{upTo-take, upTo-length}
 use Rattle.lines.proofs.Laws.Session.{run-append, take-take-append}
-use Rattle.lines.proofs.Laws.Blocks.{part-line, fits-true}
+use Rattle.lines.proofs.Laws.Blocks.{part-line, fits-true, step-used}
 
 -- ---- bytes
 
@@ -154,6 +156,35 @@ module _ (f : Figures) (block : List ℕ) (k : Desk) where
       let t = fits-true (k .place .held) (k .place .at) (length (k .line)) (length (k .out)) (b .1) in
       rw e
       (through-more f block (k .place) (k .line) (k .out) (t .0) (t .1) (t .2) (ltb (k .place .used + length (lineIn block (k .place .used))) (length block)) refl (ltb-true (k .place .used) (length block) (b .0)))
+
+-- ---- a block
+
+module _ (f : Figures) (block : List ℕ) where
+  still : (k : Desk) → ready block k ≡ false → stepOf f block k ≡ k
+  unfolding stepOf
+  still k e = rw e
+
+  steps-still : (n : ℕ) (k : Desk) → stepOf f block k ≡ k → stepsOf f block n k ≡ k
+  unfolding stepsOf
+  steps-still zero k e = refl
+  steps-still (suc n) k e = ap (stepsOf f block n) e ∙ steps-still n k e
+
+  -- no step more is left to take
+  steps-enough : (n : ℕ) (k : Desk) → length block ≤ n + k .place .used → stepsOf f block n (stepOf f block k) ≡ stepsOf f block n k
+  unfolding stepsOf
+  steps-enough zero k h = sym (step-used f block k (omega arith))
+  steps-enough (suc n) k h = go (ready block k) refl (steps-enough n (stepOf f block k))
+    where
+      go : (t : Bool) → ready block k ≡ t → (length block ≤ n + stepOf f block k .place .used → stepsOf f block n (stepOf f block (stepOf f block k)) ≡ stepsOf f block n (stepOf f block k))
+          → stepsOf f block n (stepOf f block (stepOf f block k)) ≡ stepsOf f block n (stepOf f block k)
+      go true e r = r (omega (arith, step-bounds f block k e .0))
+      go false e r = ap (λ (x : Desk). stepsOf f block n (stepOf f block x)) (still k e)
+
+  pub block-step : (k m : Desk) → m ≡ stepOf f block k → blockOf f block m ≡ blockOf f block k
+  block-step k m e = ap (stepsOf f block (length block)) e ∙ steps-enough (length block) k (omega arith)
+
+  pub block-done : (k : Desk) → ready block k ≡ false → k ≡ blockOf f block k
+  block-done k e = sym (steps-still (length block) k (still k e))
 
 -- ---- behind the last byte
 
