@@ -7,6 +7,7 @@
 --   step-bounds     a step that all fits uses some bytes, and no more than the block has
 --   block-step      a step more changes nothing of where a block's steps end
 --   block-done      where no step can be taken, they have ended
+--   block-state     a block's steps take the session's state through the bytes that they used
 --   last-state      behind the last byte, the session is finished
 use mathlib.Core.Bool.{Bool, true, false, cond, _&&_}
 use mathlib.Core.List.{List, [], _∷_, _++_, append-assoc, append-nil}
@@ -16,7 +17,7 @@ use native.Mathlib.Omega.{arith}
 use native.Mathlib.Numerals.{add-one}
 use lib.Dec.{ltb, leb, eqb}
 use lib.ListN.{length, take, drop, length-append, length-take, length-drop}
-use lib.Seq.{take-all, take-at, take-append-add, length-take-le}
+use lib.Seq.{take-all, take-add, drop-drop, take-at, take-append-add, length-take-le}
 use borrow.Author.Tests.{eqb-true, ltb-true, ltb-false}
 use Rattle.interface.specs.declared.figures.Figures.{Figures}
 use Rattle.interface.proofs.Laws.Columns.{both-true}
@@ -185,6 +186,46 @@ module _ (f : Figures) (block : List ℕ) where
 
   pub block-done : (k : Desk) → ready block k ≡ false → k ≡ blockOf f block k
   block-done k e = sym (steps-still (length block) k (still k e))
+
+  step-grows : (k : Desk) → k .place .used ≤ stepOf f block k .place .used
+  step-grows k = go (ready block k) refl
+    where
+      go : (t : Bool) → ready block k ≡ t → k .place .used ≤ stepOf f block k .place .used
+      go true e = omega (arith, step-bounds f block k e .0)
+      go false e = omega (arith, ap (λ (x : Desk). x .place .used) (still k e))
+
+  steps-grow : (n : ℕ) (k : Desk) → k .place .used ≤ stepsOf f block n k .place .used
+  unfolding stepsOf
+  steps-grow zero k = omega arith
+  steps-grow (suc n) k = omega (arith, step-grows k, steps-grow n (stepOf f block k))
+
+  -- bytes from a to b and from b to c are those from a to c
+  parts-join : (a b c : ℕ) → a ≤ b → b ≤ c → take (b - a) (drop a block) ++ take (c - b) (drop b block) ≡ take (c - a) (drop a block)
+  parts-join a b c l m =
+      let e : a + (b - a) ≡ b = omega arith in
+      let g : b - a + (c - b) ≡ c - a = omega arith in
+      ap (λ (x : List ℕ). take (b - a) (drop a block) ++ take (c - b) x) (ap (λ (n : ℕ). drop n block) (sym e) ∙ sym (drop-drop (b - a) a block))
+      ∙ sym (take-add (b - a) (c - b) (drop a block))
+      ∙ ap (λ (n : ℕ). take n (drop a block)) g
+
+  steps-state : (n : ℕ) (k : Desk)
+      → stateOf (stepsOf f block n k) ≡ run f (stateOf k) (take (stepsOf f block n k .place .used - k .place .used) (drop (k .place .used) block))
+  unfolding stepsOf run
+  steps-state zero k =
+      let z : 0 ≡ k .place .used - k .place .used = omega arith in
+      ap (λ (n : ℕ). run f (stateOf k) (take n (drop (k .place .used) block))) z
+  steps-state (suc n) k =
+      let m = stepOf f block k in
+      let u = k .place .used in
+      let v = m .place .used in
+      let w = stepsOf f block n m .place .used in
+      steps-state n m
+      ∙ ap (λ (st : State). run f st (take (w - v) (drop v block))) (step-state f block k)
+      ∙ sym (run-append f (stateOf k) (take (v - u) (drop u block)) (take (w - v) (drop v block)))
+      ∙ ap (run f (stateOf k)) (parts-join u v w (step-grows k) (steps-grow n m))
+
+  pub block-state : (k : Desk) → stateOf (blockOf f block k) ≡ run f (stateOf k) (take (blockOf f block k .place .used - k .place .used) (drop (k .place .used) block))
+  block-state k = steps-state (length block) k
 
 -- ---- behind the last byte
 
