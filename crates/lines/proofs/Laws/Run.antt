@@ -8,6 +8,8 @@
 --   block-step      a step more changes nothing of where a block's steps end
 --   block-done      where no step can be taken, they have ended
 --   block-state     a block's steps take the session's state through the bytes that they used
+--   block-more      where a step can be taken, some bytes are used
+--   block-held      the held bytes stay within the line's buffer
 --   last-state      behind the last byte, the session is finished
 use mathlib.Core.Bool.{Bool, true, false, cond, _&&_}
 use mathlib.Core.List.{List, [], _∷_, _++_, append-assoc, append-nil}
@@ -226,6 +228,32 @@ module _ (f : Figures) (block : List ℕ) where
 
   pub block-state : (k : Desk) → stateOf (blockOf f block k) ≡ run f (stateOf k) (take (blockOf f block k .place .used - k .place .used) (drop (k .place .used) block))
   block-state k = steps-state (length block) k
+
+  pub block-more : (k : Desk) → ready block k ≡ true → k .place .used < blockOf f block k .place .used
+  block-more k e =
+      let b = ap (λ (x : Desk). x .place .used) (block-step k (stepOf f block k) refl) in
+      omega (arith, b, step-bounds f block k e .0, steps-grow (length block) (stepOf f block k))
+
+  through-held : (t : Bool) (k : Desk) (s : List ℕ) (e : ℕ) → k .place .held ≤ 1025
+      → cond t (ended f (gathered (k .place) (k .line) (k .out) s e)) (gathered (k .place) (k .line) (k .out) s e) .place .held ≤ 1025
+  through-held true k s e h = omega arith
+  through-held false k s e h = omega (arith, length-take (1025 - k .place .held) s)
+
+  step-held : (k : Desk) → k .place .held ≤ 1025 → stepOf f block k .place .held ≤ 1025
+  unfolding stepOf
+  step-held k h = go (ready block k)
+    where
+      go : (t : Bool) → cond t (through f block k (lineIn block (k .place .used)) (k .place .used + length (lineIn block (k .place .used)))) k .place .held ≤ 1025
+      go true = through-held (ltb (k .place .used + length (lineIn block (k .place .used))) (length block)) k (lineIn block (k .place .used)) (k .place .used + length (lineIn block (k .place .used))) h
+      go false = h
+
+  steps-held : (n : ℕ) (k : Desk) → k .place .held ≤ 1025 → stepsOf f block n k .place .held ≤ 1025
+  unfolding stepsOf
+  steps-held zero k h = h
+  steps-held (suc n) k h = steps-held n (stepOf f block k) (step-held k h)
+
+  pub block-held : (k : Desk) → k .place .held ≤ 1025 → blockOf f block k .place .held ≤ 1025
+  block-held k h = steps-held (length block) k h
 
 -- ---- behind the last byte
 
