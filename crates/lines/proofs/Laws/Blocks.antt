@@ -4,7 +4,7 @@
 --   answer-gathered                       an answer and its newline behind the others
 --   part-line                             what a block has of a line, as a part of the block
 --   room-fits                             held bytes stay within the line's buffer
---   fits-true                             what the test of the buffers' room tells
+--   fits-true, ready-of                   what the test of the buffers' room tells, and where a step can be taken
 --   through-newline, through-end          a step where all fits: a line is answered, or its bytes are held
 --   step-used, step-unfit, step-ready     a step: the block is used, the buffers have no room, or all fits
 --   last-none, last-unfit, last-some      behind the last byte: no line, no room, or a line that lacks its newline
@@ -16,7 +16,7 @@ use native.Mathlib.Omega.{arith}
 use lib.Dec.{ltb, leb, eqb}
 use lib.ListN.{length, take, drop, length-take, length-drop, drop-of-length-le}
 use lib.Seq.{drop-drop}
-use borrow.Author.Tests.{lt-ltb, le-ltb, leb-true, eqb-true}
+use borrow.Author.Tests.{lt-ltb, le-ltb, le-leb, eq-eqb, leb-true, eqb-true}
 use Rattle.interface.specs.declared.figures.Figures.{Figures}
 use Rattle.interface.proofs.Laws.Columns.{both-true}
 use Rattle.plant.specs.declared.record.Plant.{Plant}
@@ -116,6 +116,11 @@ fits-true held at line out e =
     let b = both-true (leb held 1025) (eqb line 1025) (a .0) in
     let c = leb-true 513 (out - at) (a .1) in
     (leb-true held 1025 (b .0), eqb-true line 1025 (b .1), omega arith)
+
+pub ready-of : (block : List ℕ) (k : Desk) → k .place .used < length block → k .place .held ≤ 1025 → length (k .line) ≡ 1025 → k .place .at + 513 ≤ length (k .out) → ready block k ≡ true
+unfolding fits
+ready-of block k u h l o =
+    simp (lt-ltb (k .place .used) (length block) u, le-leb (k .place .held) 1025 h, eq-eqb (length (k .line)) 1025 l, le-leb 513 (length (k .out) - k .place .at) (omega arith))
 
 and-unfit : (a b : Bool) → b ≡ false → (a && b) ≡ false
 and-unfit true b h = h
