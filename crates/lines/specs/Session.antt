@@ -7,7 +7,8 @@
 --   requests                     the calls that a list of lines asks
 --   State, run, finish           the same byte by byte, with at most 1,025 bytes of the line that is not ended
 --   FileLaw                      for any input, its accepted lines' sums balance against its held line. proofs/Laws/File.antt proves it: file
---   WholeLaw                     byte by byte, the answers are those of the lines. proofs/Laws/Session.antt proves it: whole
+--   joined, runBlocks            an input that falls into blocks, and its blocks one behind the other
+--   WholeLaw                     by blocks, the answers are those of the input's lines. proofs/Laws/Session.antt proves it: whole
 --
 -- f is the set of figures; the program has the house set.
 use mathlib.Core.Bool.{cond}
@@ -134,5 +135,14 @@ pub record FileBalanced (f : Figures) (rs : List Request) (held : HeldTotals) : 
 abbrev pub FileLaw : Type 0
 FileLaw = (f : Figures) → Permitted f → (s : List ℕ) → FileBalanced f (requests (cutLines s)) (heldOf f (afterLines f freshPlant (cutLines s)))
 
+-- however the input falls into blocks
+unfoldable pub joined : List (List ℕ) → List ℕ
+joined [] = []
+joined (b ∷ bs) = b ++ joined bs
+
+unfoldable pub runBlocks : Figures → State → List (List ℕ) → State
+runBlocks f st [] = st
+runBlocks f st (b ∷ bs) = runBlocks f (run f st b) bs
+
 abbrev pub WholeLaw : Type 0
-WholeLaw = (f : Figures) (s : List ℕ) → Whole f s (finish f (run f (start freshPlant) s))
+WholeLaw = (f : Figures) (bs : List (List ℕ)) → Whole f (joined bs) (finish f (runBlocks f (start freshPlant) bs))

@@ -2,7 +2,7 @@
 --
 --   given-cut        a line cut to 1,025 bytes is answered as the line is
 --   run-append       bytes run one part behind the other
---   whole            byte by byte, the answers and the record are those of the lines
+--   whole            however an input falls into blocks, the answers and the record are those of its lines
 --   after-requests   the record after lines is that after the calls that they ask
 use mathlib.Core.Bool.{Bool, true, false, cond}
 use mathlib.Core.List.{List, [], _∷_, _++_, append-assoc, append-nil}
@@ -25,7 +25,7 @@ use Rattle.lines.specs.Text.{newline}
 use Rattle.lines.specs.Form.{readLine}
 use Rattle.lines.specs.Answer.{answerText}
 use Rattle.lines.specs.Asking.{formOutcome, askedOutcome, outcomeText}
-use Rattle.lines.specs.Session.{State, keep, kept, ended, run, finish, start, cut, cutLines, givenBy, answerOf, afterLine, answers, afterLines, requestOf, requests, Whole, WholeLaw}
+use Rattle.lines.specs.Session.{State, keep, kept, ended, run, finish, start, cut, cutLines, givenBy, answerOf, afterLine, answers, afterLines, requestOf, requests, joined, runBlocks, Whole, WholeLaw}
 use Rattle.lines.proofs.Laws.Form.{line-long}
 
 -- ---- a line over 1,024 bytes
@@ -90,8 +90,15 @@ module _ (f : Figures) where
   from-fresh : (s : List ℕ) → finish f (run f (start freshPlant) s) ≡ told [] freshPlant (cutLines s)
   from-fresh s = holds s [] freshPlant []
 
+blocks-joined : (f : Figures) (st : State) (bs : List (List ℕ)) → runBlocks f st bs ≡ run f st (joined bs)
+unfolding joined runBlocks run
+blocks-joined f st [] = refl
+blocks-joined f st (b ∷ bs) = blocks-joined f (run f st b) bs ∙ sym (run-append f st b (joined bs))
+
 pub whole : WholeLaw
-whole f s = record { printed = ap (λ (st : State). st .printed) (from-fresh f s); plant = ap (λ (st : State). st .plant) (from-fresh f s) }
+whole f bs =
+    let e = ap (finish f) (blocks-joined f (start freshPlant) bs) ∙ from-fresh f (joined bs) in
+    record { printed = ap (λ (st : State). st .printed) e; plant = ap (λ (st : State). st .plant) e }
 
 -- ---- the calls that lines ask
 
