@@ -6,6 +6,7 @@ pub mod Names
 pub mod Form
 pub mod Buffer
 pub mod Answer
+pub mod OneLine
 pub mod Asking
 pub mod Session
 pub mod File

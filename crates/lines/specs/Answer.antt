@@ -4,8 +4,10 @@
 --   answerText                an answer's bytes, with the vector of a release
 --   heldText                  the held line's bytes
 --   fitting                   no bytes where the buffer is under 512
-use mathlib.Core.Bool.{cond}
+--   AnswerLineLaw, HeldLineLaw   neither holds a newline
+use mathlib.Core.Bool.{true, cond}
 use mathlib.Core.List.{List, [], _∷_, _++_}
+use mathlib.Core.Path.{_≡_}
 use Prim.Native.Nat.{ℕ, zero, suc}
 use lib.Dec.{ltb, eqb}
 use lib.ListN.{getD}
@@ -13,7 +15,7 @@ use Rattle.plant.specs.declared.answer.Answer.{Answer}
 use Rattle.plant.specs.declared.answer.Answer.the-variants.{Received, Fed, Settled, Returned, Released, Refused}
 use Rattle.plant.specs.declared.holding.HeldTotals.{HeldTotals}
 use Rattle.lines.specs.declared.names.Vector.the-variants.{Sludge}
-use Rattle.lines.specs.Text.{ascii}
+use Rattle.lines.specs.Text.{ascii, oneLine}
 use Rattle.lines.specs.Number.{decimal}
 use Rattle.lines.specs.Names.{namesOf}
 
@@ -61,3 +63,10 @@ heldText h = cond (eqb (h .refusal) 0) (totalsText (h .cod .0) (h .tkn .0) (h .o
 
 abbrev pub fitting : ℕ → List ℕ → List ℕ
 fitting n s = cond (ltb n 512) [] s
+
+-- no answer and no held line holds a newline. proofs/Laws/OneLine.antt proves it: one-answer, one-held
+abbrev pub AnswerLineLaw : Type 0
+AnswerLineLaw = (a : Answer) (v : List ℕ) → oneLine (answerText a v) ≡ true
+
+abbrev pub HeldLineLaw : Type 0
+HeldLineLaw = (h : HeldTotals) → oneLine (heldText h) ≡ true

@@ -4,7 +4,8 @@
 --   sameBytes        two byte strings are the same, as a test
 --   upTo, behind     the bytes before the first b, and those behind it
 --   pieces           the pieces that end with b, and what stands behind the last b
-use mathlib.Core.Bool.{Bool, true, false, cond, _&&_}
+--   oneLine          no newline stands in a byte string, as a test
+use mathlib.Core.Bool.{Bool, true, false, cond, not, _&&_}
 use mathlib.Core.List.{List, [], _∷_}
 use Prim.Native.Nat.{ℕ}
 use Prim.Native.Char.{code}
@@ -50,3 +51,10 @@ opening = 40
 
 abbrev pub closing : ℕ
 closing = 41
+
+-- ---- one line
+
+-- no newline stands in s
+unfoldable pub oneLine : List ℕ → Bool
+oneLine [] = true
+oneLine (b ∷ s) = not (eqb b newline) && oneLine s
