@@ -15,99 +15,18 @@ fn main() {
     feed(b'g', [0, 0, 0, 5, 0, 0, 0, 7, 100, 0, 0, 0, 0]);
     feed(b'h', [0, 0, 0, 0, 0, 1, 0, 0, 3497, 0, 0, 0, 0]);
     feed(b'i', [0, 0, 0, 100, 0, 0, 0, 0, 0, 0, 0, 2810, 0]);
-    give_back(
-        b'j',
-        [
-            0,
-            0,
-            0,
-            0,
-            0,
-            0,
-            0,
-            0,
-            0,
-            0,
-            8,
-            2,
-            0,
-            0,
-            0,
-            0,
-            0,
-            0,
-            0,
-            0,
-            0,
-            0,
-            6000,
-            0,
-            0,
-            0,
-        ],
-    );
-    give_back(
-        b'k',
-        [
-            0,
-            0,
-            0,
-            0,
-            0,
-            0,
-            0,
-            0,
-            0,
-            0,
-            1,
-            0,
-            0,
-            0,
-            0,
-            0,
-            0,
-            0,
-            0,
-            0,
-            0,
-            0,
-            600,
-            0,
-            0,
-            0,
-        ],
-    );
-    give_back(
-        b'k',
-        [
-            0,
-            0,
-            0,
-            0,
-            0,
-            0,
-            0,
-            0,
-            0,
-            0,
-            1,
-            0,
-            0,
-            0,
-            0,
-            0,
-            0,
-            0,
-            0,
-            0,
-            0,
-            0,
-            599,
-            0,
-            0,
-            0,
-        ],
-    );
+    give_back(b'j', digester_of(8, 2, 6000));
+    give_back(b'k', digester_of(1, 0, 600));
+    give_back(b'k', digester_of(1, 0, 599));
+}
+
+// A digester vector with these three columns, and the others zero.
+fn digester_of(xi: u64, xc: u64, sin: u64) -> [u64; 26] {
+    let mut d = [0u64; 26];
+    d[10] = xi;
+    d[11] = xc;
+    d[22] = sin;
+    d
 }
 
 // One feed: the plant's letter, and the whole of a sludge vector fed.

@@ -8,7 +8,7 @@
 --   through-newline, through-end          a step where all fits: a line is answered, or its bytes are held
 --   step-used, step-unfit, step-ready     a step: the block is used, the buffers have no room, or all fits
 --   last-none, last-unfit, last-some      behind the last byte: no line, no room, or a line that lacks its newline
-use mathlib.Core.Bool.{Bool, true, false, cond, _&&_}
+use mathlib.Core.Bool.{Bool, true, false, cond, _&&_, and-false}
 use mathlib.Core.List.{List, [], _∷_, _++_, append-assoc, append-nil}
 use mathlib.Core.Path.{_≡_, refl, sym, ap, subst, _∙_}
 use Prim.Native.Nat.{ℕ, _+_, _-_, _≤_, _<_}
@@ -123,8 +123,7 @@ ready-of block k u h l o =
     simp (lt-ltb (k .place .used) (length block) u, le-leb (k .place .held) 1025 h, eq-eqb (length (k .line)) 1025 l, le-leb 513 (length (k .out) - k .place .at) (omega arith))
 
 and-unfit : (a b : Bool) → b ≡ false → (a && b) ≡ false
-and-unfit true b h = h
-and-unfit false b h = refl
+and-unfit a b h = ap (λ (x : Bool). a && x) h ∙ and-false a
 
 module _ (f : Figures) (block : List ℕ) (k : Desk) where
   abbrev goes : Desk
