@@ -71,7 +71,8 @@ fn form_outcome(plant: Plant, l: Line) -> Outcome
     }
 }
 
-// Writes the held line without its newline, and tells how many bytes it has; a buffer under 512 bytes is left as it is.
+// Writes the held line without its newline, and tells how many bytes it has. A buffer under 512 bytes is left as it is, and the count is 0,
+// which stands for refusal 12: a held line is never empty.
 pub fn held_line(plant: Plant, buf: &mut [u8]) -> usize
     ensures { λ r. ⌜ Answered (now (buf .entry)) (fitting (length (now (buf .entry))) (heldText (heldOf house plant))) r (now (buf .exit)) ⌝ }
 {

@@ -1,4 +1,14 @@
-// The text layer.
+// The text layer: lines in brackets, answers, and a session over an input that falls into blocks.
+//
+//   bytes    comparing and searching
+//   number   decimal numbers
+//   names    the names of the columns
+//   fields   fields in brackets, each column at most once
+//   form     a line: a call with its vectors, or no form
+//   put      bytes, numbers and columns into a lent buffer
+//   answer   an answer and the held line as text
+//   asking   the call on a line
+//   blocks   a session step by step and block by block
 mod answer;
 mod asking;
 mod blocks;
