@@ -1,15 +1,7 @@
--- Laws of the text layer, one file for each file of specs/.
-pub mod Text
-pub mod Number
-pub mod Decimal
-pub mod Names
-pub mod Form
-pub mod Buffer
-pub mod Answer
-pub mod OneLine
+-- Laws of lines and sessions, by topic.
 pub mod Asking
 pub mod Session
 pub mod File
 pub mod Blocks
 pub mod Run
-pub mod Examples
+pub mod Carry

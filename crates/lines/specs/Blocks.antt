@@ -8,18 +8,19 @@
 --   stepsOf, blockOf      step by step, until the block is used or there is no room for an answer
 --   lastOf                behind the last byte of the input
 --   stateOf               the state of the session that a desk stands for
+--   core, carried         what goes from block to block: the line that is not ended and the record
 --
 -- Each is defined for any place, any buffers and any block; what does not fit stays as it is.
 use mathlib.Core.Bool.{Bool, cond, _&&_}
-use mathlib.Core.List.{List}
+use mathlib.Core.List.{List, []}
 use Prim.Native.Nat.{ℕ, zero, suc, _+_, _-_}
 use lib.Dec.{ltb, leb, eqb}
 use lib.ListN.{length, take, drop}
 use Rattle.interface.specs.declared.figures.Figures.{Figures}
 use Rattle.plant.specs.declared.record.Plant.{Plant}
 use Rattle.lines.specs.declared.blocks.Place.{Place}
-use Rattle.lines.specs.Text.{newline, upTo}
-use Rattle.lines.specs.Buffer.{putAt}
+use Rattle.reading.specs.Text.{newline, upTo}
+use Rattle.writing.specs.Buffer.{putAt}
 use Rattle.lines.specs.Session.{State, answerOf, afterLine}
 
 pub record Desk : Type 0 where
@@ -89,3 +90,10 @@ lastOf f k =
 
 abbrev pub stateOf : Desk → State
 stateOf k = record { held = take (k .place .held) (k .line); plant = k .place .plant; printed = take (k .place .at) (k .out) }
+
+-- a state without what is printed
+abbrev pub core : State → State
+core st = record { held = st .held; plant = st .plant; printed = [] }
+
+abbrev pub carried : Place → List ℕ → State
+carried p line = record { held = take (p .held) line; plant = p .plant; printed = [] }

@@ -1,10 +1,3 @@
-pub mod Text
-pub mod Number
-pub mod Names
-pub mod Form
-pub mod Buffer
-pub mod Answer
 pub mod Asking
 pub mod Session
 pub mod Blocks
-pub mod Examples

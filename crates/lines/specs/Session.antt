@@ -27,12 +27,12 @@ use Rattle.plant.specs.Record.{freshPlant}
 use Rattle.plant.specs.declared.holding.HeldTotals.{HeldTotals}
 use Rattle.plant.specs.Balance.{received, released, burnt, gas, stripped, oxygenReduced, nitrateReduced}
 use Rattle.plant.specs.Held.{heldOf}
-use Rattle.lines.specs.declared.form.Form.{Form}
-use Rattle.lines.specs.declared.form.Form.the-variants.{Asked, NotAForm}
-use Rattle.lines.specs.declared.form.Line.{Line}
-use Rattle.lines.specs.Text.{newline}
-use Rattle.lines.specs.Form.{readLine}
-use Rattle.lines.specs.Answer.{heldText}
+use Rattle.reading.specs.declared.form.Form.{Form}
+use Rattle.reading.specs.declared.form.Form.the-variants.{Asked, NotAForm}
+use Rattle.reading.specs.declared.form.Line.{Line}
+use Rattle.reading.specs.Text.{newline}
+use Rattle.reading.specs.Form.{readLine}
+use Rattle.writing.specs.Answer.{heldText}
 use Rattle.lines.specs.Asking.{formOutcome, outcomeText}
 
 -- ---- lines

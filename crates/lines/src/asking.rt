@@ -1,23 +1,20 @@
 // The call on a line, and the held line.
 ghost use mathlib.Core.Path.{_≡_};
 ghost use denote.Ref.{ptr};
-ghost use lib.ListN.{length, take};
+ghost use lib.ListN.{take};
 ghost use Rattle.interface.specs.Figures.{house};
-ghost use Rattle.plant.specs.Held.{heldOf};
-ghost use Rattle.lines.specs.Buffer.{Answered};
-ghost use Rattle.lines.specs.Answer.{heldText, fitting};
-ghost use Rattle.lines.specs.Asking.{formOutcome, LineAnswered};
-use crate::answer::write_answer;
-use crate::answer::write_held;
-use crate::form::Form;
-use crate::form::Line;
-use crate::form::read_line;
+ghost use Rattle.lines.specs.Asking.{formOutcome, LineAnswered, HeldAnswered};
 use plant::Outcome;
 use plant::Plant;
 use plant::Request;
 use plant::answer_request;
 use plant::held;
 use plant::refusal;
+use reading::Form;
+use reading::Line;
+use reading::read_line;
+use writing::write_answer;
+use writing::write_held;
 
 // The outcome of a line, and how many bytes its answer has.
 pub struct LineOutcome {
@@ -71,10 +68,24 @@ fn form_outcome(plant: Plant, l: Line) -> Outcome
     }
 }
 
-// Writes the held line without its newline, and tells how many bytes it has. A buffer under 512 bytes is left as it is, and the count is 0,
-// which stands for refusal 12: a held line is never empty.
-pub fn held_line(plant: Plant, buf: &mut [u8]) -> usize
-    ensures { λ r. ⌜ Answered (now (buf .entry)) (fitting (length (now (buf .entry))) (heldText (heldOf house plant))) r (now (buf .exit)) ⌝ }
+// The refusal of a held line, 0 where there is none, and how many bytes the line has.
+pub struct HeldOutcome {
+    pub refusal: u64,
+    pub length: usize,
+}
+
+// Writes the held line without its newline; under 12 the buffer is left as it is.
+pub fn held_line(plant: Plant, buf: &mut [u8]) -> HeldOutcome
+    ensures { λ r. ⌜ HeldAnswered house plant (now (buf .entry)) r (now (buf .exit)) ⌝ }
 {
-    write_held(buf, held(plant))
+    let totals = held(plant);
+    let refusal = totals.refusal;
+    let length = write_held(buf, totals);
+    if 512 <= buf.len() {
+        return HeldOutcome { refusal, length };
+    }
+    HeldOutcome {
+        refusal: 12,
+        length,
+    }
 }

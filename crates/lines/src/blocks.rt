@@ -5,14 +5,13 @@ ghost use mathlib.Core.Bool.{_&&_};
 ghost use lib.Dec.{ltb};
 ghost use lib.ListN.{length, take};
 ghost use Rattle.interface.specs.Figures.{house};
-ghost use Rattle.lines.specs.Buffer.{Put};
+ghost use Rattle.writing.specs.Buffer.{Put};
 ghost use Rattle.lines.specs.Session.{answerOf, afterLine};
 ghost use Rattle.lines.specs.Blocks.{fits, room, desk, lineIn, through, stepOf, blockOf, lastOf};
 use crate::asking::answer_line;
-use crate::bytes::place;
-use crate::put::put_byte;
-use crate::put::put_bytes;
 use plant::Plant;
+use reading::find_byte;
+use writing::put_fitting;
 
 // What is carried from block to block: how many bytes of the block are used, how many are held of the line that is not
 // ended, how many answer bytes are not written, and the record.
@@ -67,7 +66,7 @@ fn step_through(block: &[u8], line: &mut [u8], out: &mut [u8], p: Place) -> Plac
 {
     let from = p.used;
     let plant = p.plant;
-    let e = place(block, from, 10);
+    let e = find_byte(block, from, 10);
     let held = keep_bytes(line, p.held, &block[from..e]);
     if e < block.len() {
         let g = gather_answer(plant, &line[..held], out, p.at);
@@ -133,9 +132,9 @@ fn keep_bytes(line: &mut [u8], held: usize, s: &[u8]) -> usize
 {
     let n = 1025 - held;
     if s.len() <= n {
-        return put_bytes(line, held, s);
+        return put_fitting(line, held, s);
     }
-    put_bytes(line, held, &s[..n])
+    put_fitting(line, held, &s[..n])
 }
 
 // The record after a line, and the place behind its answer.
@@ -154,6 +153,6 @@ fn gather_answer(plant: Plant, line: &[u8], out: &mut [u8], at: usize) -> Gather
     let outcome = a.outcome;
     let next = outcome.plant;
     let end = at + a.length;
-    let k = put_byte(out, end, 10);
+    let k = put_fitting(out, end, b"\n");
     Gathered { at: k, plant: next }
 }

@@ -1,7 +1,10 @@
 // Reads standard input to its end, in fixed memory, and prints an answer for each line, then the held line.
 ghost use mathlib.Core.Path.{_≡_};
 ghost use Prim.Native.Nat.{_≤_};
-ghost use lib.ListN.{length};
+ghost use lib.ListN.{length, take};
+ghost use Rattle.interface.specs.Figures.{house};
+ghost use Rattle.lines.specs.Session.{run};
+ghost use Rattle.lines.specs.Blocks.{core, carried};
 use libc::STDIN_FILENO;
 use libc::STDOUT_FILENO;
 use lines::Place;
@@ -34,10 +37,10 @@ fn talk(input: &mut [u8], line: &mut [u8], out: &mut [u8])
     while turns > 0 {
         let t = read_once(input, line, out, p);
         p = t.place;
-        if t.more {
-            turns -= 1;
-        } else {
+        if t.got == 0 {
             turns = 0;
+        } else {
+            turns -= 1;
         }
     }
     let q = lines::last_line(line, out, p);
@@ -50,14 +53,15 @@ fn write_held(out: &mut [u8], p: Place)
     requires { ⌜ length (now out) ≡ 65536 ⌝ }
 {
     let plant = p.plant;
-    let n = lines::held_line(plant, out);
+    let h = lines::held_line(plant, out);
+    let n = h.length;
     io::write_all(STDOUT_FILENO, &out[..n]);
     io::write_all(STDOUT_FILENO, b"\n");
 }
 
-// Whether there may be more input, and the place behind what was read.
+// How many bytes were read, none at the input's end, and the place behind them.
 struct Turn {
-    more: bool,
+    got: usize,
     place: Place,
 }
 
@@ -65,13 +69,11 @@ struct Turn {
 fn read_once(input: &mut [u8], line: &mut [u8], out: &mut [u8], p: Place) -> Turn
     requires { ⌜ (p .held ≤ 1025) × (p .at ≡ 0) × (length (now line) ≡ 1025) × (length (now out) ≡ 65536) ⌝ }
     ensures { λ r. ⌜ (r .place .held ≤ 1025) × (r .place .at ≡ 0) ⌝ }
+    ensures { λ r. ⌜ carried (r .place) (now (line .exit)) ≡ core (run house (carried p (now (line .entry))) (take (r .got) (now (input .exit)))) ⌝ }
 {
     let got = libc::read(STDIN_FILENO, input);
     if got <= 0 {
-        return Turn {
-            more: false,
-            place: p,
-        };
+        return Turn { got: 0, place: p };
     }
     let n = io::count(got, input);
     let plant = p.plant;
@@ -82,16 +84,14 @@ fn read_once(input: &mut [u8], line: &mut [u8], out: &mut [u8], p: Place) -> Tur
         plant,
     };
     let r = answer_all(&input[..n], line, out, start);
-    Turn {
-        more: true,
-        place: r,
-    }
+    Turn { got: n, place: r }
 }
 
 // Each line that the block ends is answered, and the answers are written.
 fn answer_all(block: &[u8], line: &mut [u8], out: &mut [u8], p: Place) -> Place
-    requires { ⌜ (p .held ≤ 1025) × (p .at ≡ 0) × (length (now line) ≡ 1025) × (length (now out) ≡ 65536) ⌝ }
+    requires { ⌜ (p .used ≡ 0) × (p .held ≤ 1025) × (p .at ≡ 0) × (length (now line) ≡ 1025) × (length (now out) ≡ 65536) ⌝ }
     ensures { λ r. ⌜ (r .held ≤ 1025) × (r .at ≡ 0) ⌝ }
+    ensures { λ r. ⌜ carried r (now (line .exit)) ≡ core (run house (carried p (now (line .entry))) (now (block .entry))) ⌝ }
 {
     let mut q = p;
     while q.used < block.len() {

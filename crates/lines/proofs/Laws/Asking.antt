@@ -2,6 +2,7 @@
 --
 --   outcome-short, outcome-full   what the outcome is in a buffer under 512 bytes, and in a longer one
 --   line-short, line-full         the promise of the call, in the same two cases
+--   held-short, held-full         the promise of the held line, in the same two cases
 use mathlib.Core.Bool.{Bool, true, false, cond}
 use mathlib.Core.List.{List, []}
 use mathlib.Core.Path.{_≡_, refl, sym, ap, subst, _∙_}
@@ -12,12 +13,14 @@ use Rattle.interface.specs.declared.figures.Figures.{Figures}
 use Rattle.plant.specs.declared.record.Plant.{Plant}
 use Rattle.plant.specs.declared.answer.Outcome.{Outcome}
 use Rattle.plant.specs.Answer.{refused}
-use Rattle.lines.specs.declared.form.Line.{Line}
-use Rattle.lines.specs.Form.{readLine}
-use Rattle.lines.specs.Buffer.{Answered}
-use Rattle.lines.specs.Answer.{fitting}
-use Rattle.lines.specs.Asking.{formOutcome, lineOutcome, outcomeText, lineText, LineAnswered}
-use Rattle.lines.proofs.Laws.Answer.{too-short}
+use Rattle.plant.specs.Held.{heldOf}
+use Rattle.plant.specs.declared.holding.HeldTotals.{HeldTotals}
+use Rattle.reading.specs.declared.form.Line.{Line}
+use Rattle.reading.specs.Form.{readLine}
+use Rattle.writing.specs.Buffer.{Answered}
+use Rattle.writing.specs.Answer.{fitting, heldText}
+use Rattle.lines.specs.Asking.{formOutcome, lineOutcome, outcomeText, lineText, LineAnswered, heldRefusal, HeldAnswered}
+use Rattle.writing.proofs.Laws.Answer.{too-short, held-replied}
 
 pub outcome-short : (f : Figures) (m : ℕ) (p : Plant) (s : List ℕ) → m < 512 → lineOutcome f m p s ≡ refused p 12
 unfolding lineOutcome
@@ -41,3 +44,17 @@ module _ {f : Figures} {p : Plant} {s d : List ℕ} {o : Outcome} where
         outcome = t ∙ sym (outcome-full f (length d) p s h);
         text = subst (λ (x : Outcome). Answered d (fitting (length d) (outcomeText x)) n e) t a;
       }
+
+-- ---- the held line
+
+module _ {f : Figures} {p : Plant} {d : List ℕ} {h : HeldTotals} {n : ℕ} {e : List ℕ} where
+  pub held-short : length d < 512 → h ≡ heldOf f p → Answered d (fitting (length d) (heldText h)) n e → HeldAnswered f p d (record { refusal = 12; length = n }) e
+  unfolding heldRefusal
+  held-short l q a = record { refusal = sym (ap (λ b. cond b 12 (heldOf f p .refusal)) (lt-ltb (length d) 512 l)); text = held-replied q a }
+
+  pub held-full : 512 ≤ length d → h ≡ heldOf f p → Answered d (fitting (length d) (heldText h)) n e → HeldAnswered f p d (record { refusal = h .refusal; length = n }) e
+  unfolding heldRefusal
+  held-full l q a = record {
+    refusal = ap (λ (t : HeldTotals). t .refusal) q ∙ sym (ap (λ b. cond b 12 (heldOf f p .refusal)) (le-ltb (length d) 512 l));
+    text = held-replied q a;
+  }

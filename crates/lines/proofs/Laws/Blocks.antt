@@ -24,15 +24,15 @@ use Rattle.plant.specs.declared.answer.Outcome.{Outcome}
 use Rattle.lines.specs.declared.asking.LineOutcome.{LineOutcome}
 use Rattle.lines.specs.declared.blocks.Place.{Place}
 use Rattle.lines.specs.declared.blocks.Gathered.{Gathered}
-use Rattle.lines.specs.Text.{newline, upTo}
-use Rattle.lines.specs.Buffer.{putAt, Put, Answered}
-use Rattle.lines.specs.Form.{readLine}
+use Rattle.reading.specs.Text.{newline, upTo}
+use Rattle.writing.specs.Buffer.{putAt, Put, Answered}
+use Rattle.reading.specs.Form.{readLine}
 use Rattle.lines.specs.Asking.{formOutcome, outcomeText, lineText, LineAnswered}
 use Rattle.lines.specs.Session.{givenBy, answerOf, afterLine}
 use Rattle.lines.specs.Blocks.{Desk, desk, placeAt, fits, deskFits, ready, room, gathered, answeredDesk, ended, through, lineIn, stepOf, lastOf}
-use Rattle.lines.proofs.Laws.Text.{rest-of, upTo-take}
-use Rattle.lines.proofs.Laws.Buffer.{put-then}
-use Rattle.lines.proofs.Laws.Answer.{fitting-all}
+use Rattle.reading.proofs.Laws.Text.{rest-of, upTo-take}
+use Rattle.writing.proofs.Laws.Buffer.{put-then}
+use Rattle.writing.proofs.Laws.Answer.{fitting-all}
 use Rattle.lines.proofs.Laws.Asking.{outcome-full}
 
 -- the buffer d with the bytes e in the place of those from `at` on

@@ -8,6 +8,7 @@
 --   block-step      a step more changes nothing of where a block's steps end
 --   block-done      where no step can be taken, they have ended
 --   block-state     a block's steps take the session's state through the bytes that they used
+--   block-grows     the block's place never goes back
 --   block-more      where a step can be taken, some bytes are used
 --   block-held      the held bytes stay within the line's buffer
 --   last-state      behind the last byte, the session is finished
@@ -25,12 +26,12 @@ use Rattle.interface.specs.declared.figures.Figures.{Figures}
 use Rattle.interface.proofs.Laws.Columns.{both-true}
 use Rattle.plant.specs.declared.record.Plant.{Plant}
 use Rattle.lines.specs.declared.blocks.Place.{Place}
-use Rattle.lines.specs.Text.{newline, upTo}
-use Rattle.lines.specs.Buffer.{putAt}
+use Rattle.reading.specs.Text.{newline, upTo}
+use Rattle.writing.specs.Buffer.{putAt}
 use Rattle.lines.specs.Session as session
 use Rattle.lines.specs.Session.{State, keep, kept, run, finish, finishHeld, answerOf, afterLine}
 use Rattle.lines.specs.Blocks.{Desk, desk, placeAt, fits, deskFits, ready, room, gathered, answeredDesk, ended, through, lineIn, stepOf, stepsOf, blockOf, lastOf, stateOf}
-use Rattle.lines.proofs.Laws.Text.{upTo-take, upTo-length}
+use Rattle.reading.proofs.Laws.Text.{upTo-take, upTo-length}
 use Rattle.lines.proofs.Laws.Session.{run-append, take-take-append}
 use Rattle.lines.proofs.Laws.Blocks.{part-line, fits-true, step-used}
 
@@ -228,6 +229,9 @@ module _ (f : Figures) (block : List ℕ) where
 
   pub block-state : (k : Desk) → stateOf (blockOf f block k) ≡ run f (stateOf k) (take (blockOf f block k .place .used - k .place .used) (drop (k .place .used) block))
   block-state k = steps-state (length block) k
+
+  pub block-grows : (k : Desk) → k .place .used ≤ blockOf f block k .place .used
+  block-grows k = steps-grow (length block) k
 
   pub block-more : (k : Desk) → ready block k ≡ true → k .place .used < blockOf f block k .place .used
   block-more k e =

@@ -18,15 +18,15 @@ use Rattle.plant.specs.declared.record.Plant.{Plant}
 use Rattle.plant.specs.declared.answer.Outcome.{Outcome}
 use Rattle.plant.specs.Record.{freshPlant}
 use Rattle.plant.specs.Balance.{after}
-use Rattle.lines.specs.declared.form.Form.{Form}
-use Rattle.lines.specs.declared.form.Form.the-variants.{Asked, NotAForm}
-use Rattle.lines.specs.declared.form.Line.{Line}
-use Rattle.lines.specs.Text.{newline}
-use Rattle.lines.specs.Form.{readLine}
-use Rattle.lines.specs.Answer.{answerText}
+use Rattle.reading.specs.declared.form.Form.{Form}
+use Rattle.reading.specs.declared.form.Form.the-variants.{Asked, NotAForm}
+use Rattle.reading.specs.declared.form.Line.{Line}
+use Rattle.reading.specs.Text.{newline}
+use Rattle.reading.specs.Form.{readLine}
+use Rattle.writing.specs.Answer.{answerText}
 use Rattle.lines.specs.Asking.{formOutcome, askedOutcome, outcomeText}
 use Rattle.lines.specs.Session.{State, keep, kept, ended, run, finish, start, cut, cutLines, givenBy, answerOf, afterLine, answers, afterLines, requestOf, requests, joined, runBlocks, Whole, WholeLaw}
-use Rattle.lines.proofs.Laws.Form.{line-long}
+use Rattle.reading.proofs.Laws.Form.{line-long}
 
 -- ---- a line over 1,024 bytes
 

@@ -69,9 +69,9 @@ talk-spec =
     fresh-requires
     loop-holds
     read-once-requires
-    sub-turns
     loop-less
     loop-again
+    sub-turns
     loop-less-2
     loop-again-2
     last-line-requires

@@ -13,7 +13,7 @@ slice-reshare-prefix-write-all : tie.Need-slice-reshare-prefix-write-all
 slice-reshare-prefix-write-all c = search needs
 
 slice-aggregate-write-all : tie.Need-slice-aggregate-write-all
-slice-aggregate-write-all c = sym (length-take-le _ _ (omega (arith, c .before .before .before .held-line .ensures .within, c .before .before .before .held-line .kept)))
+slice-aggregate-write-all c = sym (length-take-le _ _ (omega (arith, c .before .before .before .held-line .ensures .text .within, c .before .before .before .held-line .kept)))
 
 write-all-requires : tie.Need-write-all-requires
 write-all-requires c κs = search needs

@@ -1,7 +1,7 @@
 -- `lines::asking::form_outcome` meets its contract. Assumes nothing.
 use mathlib.Core.Path.{sym, ap, _∙_}
 use Rattle.interface.specs.Figures.{house}
-use Rattle.lines.specs.declared.form.Form.{Form}
+use Rattle.reading.specs.declared.form.Form.{Form}
 use Rattle.lines.specs.Asking.{askedOutcome}
 use borrow.Author.Needs.{needs}
 use Rattle.lines.proofs.asking.form_outcome.Statement.{statement}

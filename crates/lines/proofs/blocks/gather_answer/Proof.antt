@@ -1,5 +1,7 @@
 -- `lines::blocks::gather_answer` meets its contract. Assumes nothing.
 use Rattle.lines.proofs.Laws.Blocks.{answer-gathered}
+use native.Mathlib.Omega.{arith}
+use Rattle.writing.proofs.Laws.Buffer.{put-room}
 use borrow.Author.Needs.{needs}
 use Rattle.lines.proofs.blocks.gather_answer.Statement.{statement}
 use Rattle.lines.proofs.blocks.gather_answer.Tie as tie
@@ -19,14 +21,19 @@ answer-line-requires c κs = search needs
 add-end : tie.Need-add-end
 add-end c = search needs
 
-put-byte-requires : tie.Need-put-byte-requires
-put-byte-requires c κs = search needs
+slice-aggregate-put-fitting : tie.Need-slice-aggregate-put-fitting
+slice-aggregate-put-fitting c = search needs
+
+put-fitting-requires : tie.Need-put-fitting-requires
+put-fitting-requires c κs = search needs
 
 same-length : tie.Need-same-length
 same-length c = search needs
 
 returns : tie.Need-returns
-returns c = answer-gathered (c .before .before .before .before .before .before .before .before .before .before .before .before .before .args .out .now) (c .before .before .before .before .before .before .before .before .before .before .before .before .before .args .at) (c .before .before .before .before .before .before .before .before .before .before .before .before .before .pre) (c .before .before .before .before .before .before .before .before .before .answer-line .ensures) (c .before .before .put-byte .ensures)
+returns c =
+    let a = c .before .before .before .before .before .before .before .before .before .before .before .before .before .before .args in
+    answer-gathered (a .out .now) (a .at) (c .before .before .before .before .before .before .before .before .before .before .before .before .before .before .pre) (c .before .before .before .before .before .before .before .before .before .before .answer-line .ensures) (put-room _ _ (omega arith) (c .before .before .put-fitting .ensures))
 
 pub gather-answer-spec : {M : Type 1} → statement M
 gather-answer-spec =
@@ -37,6 +44,7 @@ gather-answer-spec =
     part-answer-line-end
     answer-line-requires
     add-end
-    put-byte-requires
+    slice-aggregate-put-fitting
+    put-fitting-requires
     same-length
     returns)

@@ -3,7 +3,7 @@ use mathlib.Core.Path.{sym}
 use native.Mathlib.Omega.{arith}
 use Prim.Native.Nat.{_-_}
 use lib.Seq.{take-all, length-take-le}
-use Rattle.lines.proofs.Laws.Buffer.{put-same}
+use Rattle.writing.proofs.Laws.Buffer.{put-same, put-room}
 use borrow.Author.Needs.{needs}
 use Rattle.lines.proofs.blocks.keep_bytes.Statement.{statement}
 use Rattle.lines.proofs.blocks.keep_bytes.Tie as tie
@@ -11,36 +11,38 @@ use Rattle.lines.proofs.blocks.keep_bytes.Tie as tie
 sub-n : tie.Need-sub-n
 sub-n c = search needs
 
-put-bytes-requires : tie.Need-put-bytes-requires
-put-bytes-requires c κs = search needs
+put-fitting-requires : tie.Need-put-fitting-requires
+put-fitting-requires c κs = search needs
 
 same-length : tie.Need-same-length
 same-length c = search needs
 
 returns : tie.Need-returns
-returns c = put-same (sym (take-all (1025 - c .before .before .before .before .before .before .before .args .held) (c .before .before .before .before .before .before .before .args .s .now) (omega arith))) (c .before .before .put-bytes .ensures)
+returns c = put-same (sym (take-all (1025 - c .before .before .before .before .before .before .before .args .held) (c .before .before .before .before .before .before .before .args .s .now) (omega arith))) (put-room _ _ (omega arith) (c .before .before .put-fitting .ensures))
 
-slice-aggregate-put-bytes : tie.Need-slice-aggregate-put-bytes
-slice-aggregate-put-bytes c = sym (length-take-le (1025 - c .before .before .before .before .before .args .held) (c .before .before .before .before .before .args .s .now) (omega arith))
+slice-aggregate-put-fitting : tie.Need-slice-aggregate-put-fitting
+slice-aggregate-put-fitting c = sym (length-take-le (1025 - c .before .before .before .before .before .args .held) (c .before .before .before .before .before .args .s .now) (omega arith))
 
-put-bytes-requires-2 : tie.Need-put-bytes-requires-2
-put-bytes-requires-2 c κs = omega (arith, length-take-le (1025 - c .before .before .before .before .before .args .held) (c .before .before .before .before .before .args .s .now) (omega arith))
+put-fitting-requires-2 : tie.Need-put-fitting-requires-2
+put-fitting-requires-2 c κs = search needs
 
 same-length-2 : tie.Need-same-length-2
 same-length-2 c = search needs
 
 returns-2 : tie.Need-returns-2
-returns-2 c = search needs
+returns-2 c =
+    let a = c .before .before .before .before .before .before .before .before .args in
+    put-room _ _ (omega (arith, length-take-le (1025 - a .held) (a .s .now) (omega arith))) (c .before .before .put-fitting2 .ensures)
 
 pub keep-bytes-spec : {M : Type 1} → statement M
 keep-bytes-spec =
     tie.close
     (tie.spec
     sub-n
-    put-bytes-requires
+    put-fitting-requires
     same-length
     returns
-    slice-aggregate-put-bytes
-    put-bytes-requires-2
+    slice-aggregate-put-fitting
+    put-fitting-requires-2
     same-length-2
     returns-2)

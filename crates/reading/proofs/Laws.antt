@@ -1,0 +1,6 @@
+-- Laws of reading, one file for each file of specs/.
+pub mod Text
+pub mod Number
+pub mod Names
+pub mod Form
+pub mod Examples

@@ -1,0 +1,186 @@
+-- Laws of fields and forms. Assumes nothing.
+--
+--   field-split, field-none                     a field, by the place of its space
+--   piece-..                                    a field behind a space and a bracket
+--   fields-unclosed, fields-go, fields-stop, fields-end   one turn of a loop over fields
+--   form-is, settle-split, ..                   a form, by the place of its first space
+--   line-..                                     a whole line
+use mathlib.Core.Bool.{Bool, true, false, cond, _&&_, and-false}
+use mathlib.Core.List.{List, [], _∷_}
+use mathlib.Core.Path.{_≡_, refl, sym, ap, ap₂, _∙_}
+use Prim.Native.Nat.{ℕ, suc, _+_, _-_, _≤_, _<_}
+use native.Mathlib.Nat.{zero-add}
+use native.Mathlib.Numerals.{add-one}
+use native.Mathlib.Omega.{arith}
+use lib.Dec.{leb, eqb}
+use lib.ListN.{length, take, drop, getD, drop-of-length-le, length-drop}
+use lib.Seq.{drop-drop, take-nil}
+use borrow.Author.Tests.{eq-eqb, ne-eqb, le-leb, lt-leb}
+use Rattle.reading.specs.declared.number.Number.{Number}
+use Rattle.reading.specs.declared.number.Number.the-variants.{Value, NotANumber}
+use Rattle.reading.specs.declared.names.Column.{Column}
+use Rattle.reading.specs.declared.names.Column.the-variants.{At, Unknown}
+use Rattle.reading.specs.declared.names.Vector.the-variants.{Digester}
+use Rattle.reading.specs.declared.form.Word.{Word}
+use Rattle.reading.specs.declared.form.Line.{Line}
+use Rattle.reading.specs.declared.fields.Field.{Field}
+use Rattle.reading.specs.declared.fields.Field.the-variants.{NotAField}
+use Rattle.reading.specs.declared.fields.Fields.{Fields}
+use Rattle.reading.specs.Text.{upTo, behind, pieces}
+use Rattle.reading.specs.Number.{readNumber}
+use Rattle.reading.specs.Names.{namesOf, columnOf}
+use Rattle.reading.specs.Form.{fieldOf, readField, readPiece, noFields, addField, atEnd, whenOk, readPieces, readFields, noForm, settleLine, settleRest, wordOf, formOf, readForm, inBrackets, readLine}
+use Rattle.reading.proofs.Laws.Text.{rest-of, upTo-place, upTo-take, behind-drop, pieces-cut, pieces-last, pieces-some}
+use Rattle.reading.proofs.Laws.Number.{number-empty}
+
+-- ---- one field, where k is the place of its space
+
+module _ (names : List (List ℕ)) (s : List ℕ) (k : ℕ) (e : k ≡ 0 + length (upTo 32 s)) where
+  number-part : drop (k + 1) s ≡ behind 32 s
+  number-part = ap (λ (j : ℕ). drop j s) (add-one k ∙ ap suc (e ∙ zero-add (length (upTo 32 s)))) ∙ behind-drop 32 s
+
+  pub field-split : fieldOf (columnOf names (take k s)) (readNumber (take (length s - (k + 1)) (drop (k + 1) s))) ≡ readField names s
+  unfolding readField
+  field-split = ap₂ (λ (x y : List ℕ). fieldOf (columnOf names x) (readNumber y)) (upTo-place 32 s k e) (rest-of s (k + 1) ∙ number-part)
+
+  no-number : (c : Column) → fieldOf c NotANumber ≡ NotAField
+  no-number (At c) = refl
+  no-number Unknown = refl
+
+  pub field-none : length s ≤ k → NotAField ≡ readField names s
+  unfolding readField
+  field-none h =
+      sym
+      (ap (λ (n : Number). fieldOf (columnOf names (upTo 32 s)) n)
+      (ap readNumber (sym number-part ∙ drop-of-length-le s {i = k + 1} (omega arith)) ∙ number-empty [] refl)
+      ∙ no-number (columnOf names (upTo 32 s)))
+
+-- ---- a space, an opening bracket and a field
+
+module _ (names : List (List ℕ)) where
+  pub piece-short : (s : List ℕ) → length s < 2 → NotAField ≡ readPiece names s
+  unfolding readPiece
+  piece-short [] h = refl
+  piece-short (a ∷ []) h = refl
+  piece-short (a ∷ (b ∷ s)) h = absurd (omega arith)
+
+  pub piece-first : (s : List ℕ) → (getD s 0 0 ≡ 32 → ⊥) → NotAField ≡ readPiece names s
+  unfolding readPiece
+  piece-first [] h = refl
+  piece-first (a ∷ []) h = refl
+  piece-first (a ∷ (b ∷ s)) h = simp (ne-eqb a 32 h)
+
+  pub piece-second : (s : List ℕ) → (getD s 1 0 ≡ 40 → ⊥) → NotAField ≡ readPiece names s
+  unfolding readPiece
+  piece-second [] h = refl
+  piece-second (a ∷ []) h = refl
+  piece-second (a ∷ (b ∷ s)) h = simp (ne-eqb b 40 h, and-false)
+
+  pub piece-well : (s : List ℕ) → 2 ≤ length s → getD s 0 0 ≡ 32 → getD s 1 0 ≡ 40 → readField names (drop 2 s) ≡ readPiece names s
+  unfolding readPiece
+  piece-well [] h p q = absurd (omega arith)
+  piece-well (a ∷ []) h p q = absurd (omega arith)
+  piece-well (a ∷ (b ∷ s)) h p q = simp (eq-eqb a 32 p, eq-eqb b 40 q)
+
+-- ---- a loop over the fields of s, at i, with f so far
+
+read-step : (names : List (List ℕ)) (f : Fields) (p : List ℕ) (ps : List (List ℕ)) → 0 < length ps
+    → readPieces names f (p ∷ ps) ≡ whenOk (addField f (readPiece names p) .ok) (readPieces names (addField f (readPiece names p)) ps)
+unfolding readPieces
+read-step names f p [] h = absurd (omega arith)
+read-step names f p (q ∷ ps) h = refl
+
+module _ (names : List (List ℕ)) (f : Fields) (s : List ℕ) (i : ℕ) where
+  not-empty : (t : List ℕ) → 0 < length t → atEnd f t ≡ noFields false
+  not-empty [] h = absurd (omega arith)
+  not-empty (c ∷ t) h = refl
+
+  pub fields-unclosed : i < length s → length s ≤ i + length (upTo 41 (drop i s)) → readPieces names f (pieces 41 (drop i s)) ≡ noFields false
+  unfolding readPieces
+  fields-unclosed h k =
+      ap (readPieces names f) (pieces-last 41 (drop i s) (omega (arith, length-drop i s))) ∙ not-empty (drop i s) (omega (arith, length-drop i s))
+
+  pub fields-end : length s ≤ i → readPieces names f (pieces 41 (drop i s)) ≡ f
+  unfolding readPieces pieces
+  fields-end h = simp (drop-of-length-le s h)
+
+  -- where e is the place of the next closing bracket, and g is f with the field before it
+  module _ (e : ℕ) (q : e ≡ i + length (upTo 41 (drop i s))) (h : e < length s) (x : Field) (p : x ≡ readPiece names (take (e - i) (drop i s))) (g : Fields) (r : g ≡ addField f x) where
+    piece-at : take (e - i) (drop i s) ≡ upTo 41 (drop i s)
+    piece-at = upTo-place 41 (drop i s) (e - i) (omega arith)
+
+    rest-at : drop (e + 1) s ≡ behind 41 (drop i s)
+    rest-at =
+        ap (λ (j : ℕ). drop j s) place ∙ sym (drop-drop (suc (length (upTo 41 (drop i s)))) i s) ∙ behind-drop 41 (drop i s)
+      where
+        place : e + 1 ≡ i + suc (length (upTo 41 (drop i s)))
+        place = omega arith
+
+    stepped : readPieces names f (pieces 41 (drop i s)) ≡ whenOk (g .ok) (readPieces names g (pieces 41 (drop (e + 1) s)))
+    stepped =
+        ap (readPieces names f) (pieces-cut 41 (drop i s) (omega (arith, length-drop i s)))
+        ∙ read-step names f (upTo 41 (drop i s)) (pieces 41 (behind 41 (drop i s))) (pieces-some 41 (behind 41 (drop i s)))
+        ∙ ap₂ (λ (y : Fields) (t : List ℕ). whenOk (y .ok) (readPieces names y (pieces 41 t)))
+        (sym (r ∙ ap (addField f) (p ∙ ap (readPiece names) piece-at))) (sym rest-at)
+
+    pub fields-go : g .ok ≡ true → readPieces names f (pieces 41 (drop i s)) ≡ readPieces names g (pieces 41 (drop (e + 1) s))
+    fields-go o = stepped ∙ ap (λ (b : Bool). whenOk b (readPieces names g (pieces 41 (drop (e + 1) s)))) o
+
+    pub fields-stop : g .ok ≡ false → readPieces names f (pieces 41 (drop i s)) ≡ noFields false
+    fields-stop o = stepped ∙ ap (λ (b : Bool). whenOk b (readPieces names g (pieces 41 (drop (e + 1) s)))) o
+
+settle-empty : settleRest [] ≡ noForm
+unfolding settleRest upTo
+settle-empty = ap (λ (n : Number). settleLine n (readFields (namesOf Digester) [])) (number-empty [] refl)
+
+-- ---- a form, where k is the place of its first space
+
+module _ (t : List ℕ) (k : ℕ) (e : k ≡ 0 + length (upTo 32 t)) where
+  pub rest-part : take (length t - k) (drop k t) ≡ drop (length (upTo 32 t)) t
+  rest-part = rest-of t k ∙ ap (λ (j : ℕ). drop j t) (e ∙ zero-add (length (upTo 32 t)))
+
+  pub behind-part : take (length t - (k + 1)) (drop (k + 1) t) ≡ behind 32 t
+  behind-part = rest-of t (k + 1) ∙ ap (λ (j : ℕ). drop j t) (add-one k ∙ ap suc (e ∙ zero-add (length (upTo 32 t)))) ∙ behind-drop 32 t
+
+  nothing-behind : length t ≤ k → behind 32 t ≡ []
+  nothing-behind h = sym behind-part ∙ ap (take (length t - (k + 1))) (drop-of-length-le t {i = k + 1} (omega arith)) ∙ take-nil (length t - (k + 1))
+
+  pub number-none : length t ≤ k → NotANumber ≡ readNumber (behind 32 t)
+  number-none h = sym (ap readNumber (nothing-behind h) ∙ number-empty [] refl)
+
+  pub settle-none : length t ≤ k → noForm ≡ settleRest (behind 32 t)
+  settle-none h = sym (ap settleRest (nothing-behind h) ∙ settle-empty)
+
+  pub settle-split : settleLine (readNumber (take k t)) (readFields (namesOf Digester) (take (length t - k) (drop k t))) ≡ settleRest t
+  unfolding settleRest
+  settle-split = ap₂ (λ (x y : List ℕ). settleLine (readNumber x) (readFields (namesOf Digester) y)) (upTo-place 32 t k e) rest-part
+
+  pub form-is : {v w : Word} → v ≡ wordOf (take k t) → v ≡ w → formOf w t ≡ readForm t
+  unfolding readForm
+  form-is p q = ap (λ (x : Word). formOf x t) (sym q ∙ p ∙ ap wordOf (upTo-place 32 t k e))
+
+pub ok-line : {x : Line} (f : Fields) (l : Line) → f .ok ≡ true → x ≡ l → x ≡ cond (f .ok) l noForm
+ok-line f l h e = rw h e
+
+-- ---- a whole line
+
+module _ (s : List ℕ) where
+  pub line-short : length s < 2 → noForm ≡ readLine s
+  unfolding readLine inBrackets
+  line-short h = simp (lt-leb 2 (length s) h)
+
+  pub line-long : 1024 < length s → noForm ≡ readLine s
+  unfolding readLine inBrackets
+  line-long h = simp (lt-leb (length s) 1024 h, and-false)
+
+  pub line-opens : (getD s 0 0 ≡ 40 → ⊥) → noForm ≡ readLine s
+  unfolding readLine inBrackets
+  line-opens h = simp (ne-eqb (getD s 0 0) 40 h, and-false)
+
+  pub line-closes : (getD s (length s - 1) 0 ≡ 41 → ⊥) → noForm ≡ readLine s
+  unfolding readLine inBrackets
+  line-closes h = simp (ne-eqb (getD s (length s - 1) 0) 41 h, and-false)
+
+  pub line-form : 2 ≤ length s → length s ≤ 1024 → getD s 0 0 ≡ 40 → getD s (length s - 1) 0 ≡ 41 → readForm (take (length s - 1 - 1) (drop 1 s)) ≡ readLine s
+  unfolding readLine inBrackets
+  line-form h k a b = simp (le-leb 2 (length s) h, le-leb (length s) 1024 k, eq-eqb (getD s 0 0) 40 a, eq-eqb (getD s (length s - 1) 0) 41 b)

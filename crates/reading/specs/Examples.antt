@@ -1,0 +1,93 @@
+-- Lines and what they are read as. proofs/Laws/Examples.antt proves the table by computation.
+--
+--   Row, examples              a line, and what it asks
+--   Holds, ExamplesHold        the line is read as that; every line is
+use mathlib.Core.List.{List, [], _∷_, map}
+use mathlib.Core.Path.{_≡_}
+use Prim.Native.Nat.{ℕ}
+use Prim.Native.String.{String}
+use lib.ListN.{replicate}
+use Rattle.interface.specs.Plants.{Named, _is_, asm1Named, digesterNamed}
+use Rattle.interface.specs.Units.{milligrams}
+use Rattle.plant.specs.declared.answer.Call.the-variants as call
+use Rattle.reading.specs.declared.form.Form.the-variants.{Asked}
+use Rattle.reading.specs.declared.form.Line.{Line}
+use Rattle.reading.specs.Text.{ascii}
+use Rattle.reading.specs.Form.{lineOf, bare, noForm, readLine}
+
+pub record Row : Type 0 where
+  pub line : String
+  pub read : Line
+
+infix 55 _asks_
+abbrev pub _asks_ : String → Line → Row
+s asks l = record { line = s; read = l }
+
+abbrev pub receiving : List Named → Line
+receiving ns = lineOf (Asked call.Receive) (asm1Named ns) (replicate 26 0)
+
+abbrev pub settling : ℕ → List Named → Line
+settling g ns = lineOf (Asked (call.Settle (milligrams g))) (replicate 13 0) (digesterNamed ns)
+
+abbrev pub feeding : ℕ → Line
+feeding k = bare (Asked (call.Feed k))
+
+abbrev pub examples : List Row
+examples =
+    ("(receive (ss 10000) (xs 30000) (so 5000) (sno 100000000))" asks receiving ("ss" is 10000 ∷ "xs" is 30000 ∷ "so" is 5000 ∷ "sno" is 100_000_000 ∷ []))
+    ∷ ("(feed 1000)" asks feeding 1000)
+    ∷ ("(feed 0)" asks feeding 0)
+    ∷ ("(return 1000)" asks bare (Asked (call.Return 1000)))
+    ∷ ("(release 1000)" asks bare (Asked (call.Release 1000)))
+    -- no field, fields in any order, each once
+    ∷ ("(receive)" asks receiving [])
+    ∷ ("(settle 0)" asks settling 0 [])
+    ∷ ("(settle 7 (cn 2) (si 1))" asks settling 7 ("si" is 1 ∷ "cn" is 2 ∷ []))
+    ∷ ("(receive (salk 3) (ss 0))" asks receiving ("salk" is 3 ∷ []))
+    ∷ ("(receive (ss 1) (ss 1))" asks noForm)
+    -- names that begin alike, and of the other vector
+    ∷ ("(settle 0 (si 1) (sin 2) (sic 3) (xsu 4))" asks settling 0 ("si" is 1 ∷ "sin" is 2 ∷ "sic" is 3 ∷ "xsu" is 4 ∷ []))
+    ∷ ("(receive (s 1))" asks noForm)
+    ∷ ("(receive (sin 1))" asks noForm)
+    ∷ ("(settle 0 (ss 1))" asks noForm)
+    ∷ ("(receive (salka 1))" asks noForm)
+    -- numbers
+    ∷ ("(feed 18446744073709551615)" asks feeding 18_446_744_073_709_551_615)
+    ∷ ("(feed 18446744073709551616)" asks noForm)
+    ∷ ("(feed 00)" asks noForm)
+    ∷ ("(feed 01)" asks noForm)
+    ∷ ("(feed +1)" asks noForm)
+    ∷ ("(feed )" asks noForm)
+    ∷ ("(feed)" asks noForm)
+    ∷ ("(receive (ss ))" asks noForm)
+    ∷ ("(receive (ss))" asks noForm)
+    -- spaces and other bytes
+    ∷ ("" asks noForm)
+    ∷ ("()" asks noForm)
+    ∷ ("(receive )" asks noForm)
+    ∷ ("( receive)" asks noForm)
+    ∷ (" (receive)" asks noForm)
+    ∷ ("(receive) " asks noForm)
+    ∷ ("(feed  1)" asks noForm)
+    ∷ ("(feed 1 )" asks noForm)
+    ∷ ("(receive (ss 1)(xs 2))" asks noForm)
+    ∷ ("(receive (ss 1)  (xs 2))" asks noForm)
+    ∷ ("(receive (ss 1) )" asks noForm)
+    ∷ ("(receive ((ss 1)))" asks noForm)
+    ∷ ("(feed\t1)" asks noForm)
+    ∷ ("(feed 1)\r" asks noForm)
+    ∷ ("(feed 1\0)" asks noForm)
+    ∷ ("(feed é)" asks noForm)
+    ∷ ("(Feed 1)" asks noForm)
+    ∷ ("(feeds 1)" asks noForm)
+    ∷ ("(settle (ssu 4))" asks noForm)
+    ∷ ("(feed 1" asks noForm)
+    ∷ ("feed 1)" asks noForm)
+    ∷ []
+
+abbrev pub AllHold : List Row → Type 0
+AllHold [] = Unit
+AllHold (r ∷ rs) = (readLine (ascii r.line) ≡ r.read) × AllHold rs
+
+abbrev pub ExamplesHold : Type 0
+ExamplesHold = AllHold examples

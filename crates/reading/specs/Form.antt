@@ -1,0 +1,150 @@
+-- Lines in brackets: document 01, "Lines in brackets".
+--
+--   readField     inside a bracket: a name, a space, a number
+--   readFields    none or more fields, each behind a space, each column at most once
+--   wordOf        the word that a form begins with
+--   readForm      inside the outer bracket: (receive F..), (feed N), (settle N F..), (return N), (release N)
+--   readLine      a whole line: at most 1,024 bytes, a bracket around them
+--
+-- The part inside a bracket is read by itself.
+use mathlib.Core.Bool.{Bool, true, false, cond, _&&_}
+use mathlib.Core.List.{List, [], _∷_}
+use Prim.Native.Nat.{ℕ, _+_, _-_}
+use lib.Dec.{leb, ltb, eqb}
+use lib.ListN.{length, take, drop, getD, set, replicate}
+use Rattle.interface.specs.Columns.{asm1, asm1Columns}
+use Rattle.interface.specs.Units.{milligrams}
+use Rattle.plant.specs.declared.answer.Call.{Call}
+use Rattle.plant.specs.declared.answer.Call.the-variants as call
+use Rattle.reading.specs.declared.number.Number.{Number}
+use Rattle.reading.specs.declared.number.Number.the-variants.{Value, NotANumber}
+use Rattle.reading.specs.declared.names.Vector.the-variants.{Sludge, Digester}
+use Rattle.reading.specs.declared.names.Column.{Column}
+use Rattle.reading.specs.declared.names.Column.the-variants.{At, Unknown}
+use Rattle.reading.specs.declared.fields.Field.{Field}
+use Rattle.reading.specs.declared.fields.Field.the-variants.{Of, NotAField}
+use Rattle.reading.specs.declared.fields.Fields.{Fields}
+use Rattle.reading.specs.declared.form.Word.{Word}
+use Rattle.reading.specs.declared.form.Word.the-variants as word
+use Rattle.reading.specs.declared.form.Form.{Form}
+use Rattle.reading.specs.declared.form.Form.the-variants.{Asked, NotAForm}
+use Rattle.reading.specs.declared.form.Line.{Line}
+use Rattle.reading.specs.Text.{ascii, sameBytes, upTo, behind, pieces, space, opening, closing}
+use Rattle.reading.specs.Number.{readNumber}
+use Rattle.reading.specs.Names.{namesOf, columnOf}
+
+-- ---- fields
+
+abbrev pub numbered : ℕ → Number → Field
+numbered c (Value n) = Of c n
+numbered c NotANumber = NotAField
+
+abbrev pub fieldOf : Column → Number → Field
+fieldOf (At c) n = numbered c n
+fieldOf Unknown n = NotAField
+
+unfoldable pub readField : List (List ℕ) → List ℕ → Field
+readField names s = fieldOf (columnOf names (upTo space s)) (readNumber (behind space s))
+
+-- a space, and a bracket with a field
+unfoldable pub readPiece : List (List ℕ) → List ℕ → Field
+readPiece names [] = NotAField
+readPiece names (a ∷ []) = NotAField
+readPiece names (a ∷ (b ∷ s)) = cond (eqb a space && eqb b opening) (readField names s) NotAField
+
+abbrev pub noFields : Bool → Fields
+noFields b = record { ok = b; columns = replicate 26 0; seen = replicate 26 false }
+
+-- a further field; none may be where its column was named before
+unfoldable pub addField : Fields → Field → Fields
+addField f (Of c n) =
+    cond (ltb c 26)
+    (cond (getD (f .seen) c false) (noFields false) (record { ok = true; columns = set (f .columns) c n; seen = set (f .seen) c true }))
+    (noFields false)
+addField f NotAField = noFields false
+
+-- nothing stands behind the last bracket
+abbrev pub atEnd : Fields → List ℕ → Fields
+atEnd f [] = f
+atEnd f (c ∷ s) = noFields false
+
+abbrev pub whenOk : Bool → Fields → Fields
+whenOk true f = f
+whenOk false f = noFields false
+
+unfoldable pub readPieces : List (List ℕ) → Fields → List (List ℕ) → Fields
+readPieces names f [] = noFields false
+readPieces names f (p ∷ []) = atEnd f p
+readPieces names f (p ∷ (q ∷ ps)) =
+    whenOk (addField f (readPiece names p) .ok) (readPieces names (addField f (readPiece names p)) (q ∷ ps))
+
+abbrev pub readFields : List (List ℕ) → List ℕ → Fields
+readFields names s = readPieces names (noFields true) (pieces closing s)
+
+-- ---- forms
+
+abbrev pub lineOf : Form → List ℕ → List ℕ → Line
+lineOf form v d = record { form = form; sludge = v; digester = d }
+
+abbrev pub bare : Form → Line
+bare form = lineOf form (replicate 13 0) (replicate 26 0)
+
+abbrev pub noForm : Line
+noForm = bare NotAForm
+
+-- (receive F..)
+abbrev pub receiveLine : Fields → Line
+receiveLine f = cond (f .ok) (lineOf (Asked call.Receive) (asm1Columns (asm1 (f .columns))) (replicate 26 0)) noForm
+
+-- (settle N F..)
+abbrev pub settleFields : ℕ → Fields → Line
+settleFields g f = cond (f .ok) (lineOf (Asked (call.Settle (milligrams g))) (replicate 13 0) (f .columns)) noForm
+
+abbrev pub settleLine : Number → Fields → Line
+settleLine (Value g) f = settleFields g f
+settleLine NotANumber f = noForm
+
+-- (feed N), (return N), (release N)
+abbrev pub callOf : Word → ℕ → Form
+callOf word.Feed k = Asked (call.Feed k)
+callOf word.Return k = Asked (call.Return k)
+callOf word.Release k = Asked (call.Release k)
+callOf word.Receive k = NotAForm
+callOf word.Settle k = NotAForm
+callOf word.Unknown k = NotAForm
+
+abbrev pub numberLine : Word → Number → Line
+numberLine w (Value k) = bare (callOf w k)
+numberLine w NotANumber = noForm
+
+unfoldable pub wordOf : List ℕ → Word
+wordOf s =
+    cond (sameBytes s (ascii "receive")) word.Receive
+    (cond (sameBytes s (ascii "feed")) word.Feed
+    (cond (sameBytes s (ascii "settle")) word.Settle
+    (cond (sameBytes s (ascii "return")) word.Return
+    (cond (sameBytes s (ascii "release")) word.Release
+    word.Unknown))))
+
+-- behind the word settle and its space: a number, then fields
+unfoldable pub settleRest : List ℕ → Line
+settleRest u = settleLine (readNumber (upTo space u)) (readFields (namesOf Digester) (drop (length (upTo space u)) u))
+
+abbrev pub formOf : Word → List ℕ → Line
+formOf word.Receive t = receiveLine (readFields (namesOf Sludge) (drop (length (upTo space t)) t))
+formOf word.Feed t = numberLine word.Feed (readNumber (behind space t))
+formOf word.Settle t = settleRest (behind space t)
+formOf word.Return t = numberLine word.Return (readNumber (behind space t))
+formOf word.Release t = numberLine word.Release (readNumber (behind space t))
+formOf word.Unknown t = noForm
+
+-- inside the outer bracket: the word up to the first space, and what stands behind it
+unfoldable pub readForm : List ℕ → Line
+readForm t = formOf (wordOf (upTo space t)) t
+
+-- a bracket around the whole
+unfoldable pub inBrackets : List ℕ → Bool
+inBrackets s = leb 2 (length s) && leb (length s) 1024 && eqb (getD s 0 0) opening && eqb (getD s (length s - 1) 0) closing
+
+unfoldable pub readLine : List ℕ → Line
+readLine s = cond (inBrackets s) (readForm (take (length s - 1 - 1) (drop 1 s))) noForm

@@ -1,0 +1,5 @@
+pub mod Text
+pub mod Number
+pub mod Names
+pub mod Form
+pub mod Examples

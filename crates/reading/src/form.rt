@@ -1,0 +1,225 @@
+// One form a line.
+ghost use mathlib.Core.Path.{_≡_};
+ghost use Prim.Native.Nat.{_+_, _≤_};
+ghost use lib.ListN.{length};
+ghost use Rattle.reading.specs.Text.{upTo, behind};
+ghost use Rattle.reading.specs.Number.{readNumber};
+ghost use Rattle.reading.specs.Form.{bare, noForm, receiveLine, settleFields, settleLine, callOf, numberLine, wordOf, settleRest, readForm, readLine};
+use crate::bytes::place;
+use crate::bytes::same;
+use crate::fields::Fields;
+use crate::fields::read_fields;
+use crate::names::Vector;
+use crate::number::Number;
+use crate::number::read_number;
+use interface::Milligrams;
+use plant::Call;
+
+// What a line asks.
+pub enum Form {
+    Asked(Call),
+    NotAForm,
+}
+
+// A form with its vectors beside it, which are zero where it has none.
+pub struct Line {
+    pub form: Form,
+    pub sludge: [u64; 13],
+    pub digester: [u64; 26],
+}
+
+// The word that a form begins with.
+pub enum Word {
+    Receive,
+    Feed,
+    Settle,
+    Return,
+    Release,
+    Unknown,
+}
+
+// A line without its newline.
+pub fn read_line(s: &[u8]) -> Line
+    ensures { λ r. ⌜ r ≡ readLine (now (s .entry)) ⌝ }
+{
+    if s.len() < 2 {
+        return no_form();
+    }
+    if 1024 < s.len() {
+        return no_form();
+    }
+    if s[0] != 40 {
+        return no_form();
+    }
+    let e = s.len() - 1;
+    if s[e] != 41 {
+        return no_form();
+    }
+    read_form(&s[1..e])
+}
+
+// The part inside the outer bracket.
+fn read_form(t: &[u8]) -> Line
+    ensures { λ r. ⌜ r ≡ readForm (now (t .entry)) ⌝ }
+{
+    let k = place(t, 0, 32);
+    let w = word_of(&t[..k]);
+    match w {
+        Word::Receive => receive_line(read_fields(Vector::Sludge, &t[k..])),
+        Word::Feed => number_line(Word::Feed, number_behind(t, k)),
+        Word::Settle => settle_behind(t, k),
+        Word::Return => number_line(Word::Return, number_behind(t, k)),
+        Word::Release => number_line(Word::Release, number_behind(t, k)),
+        Word::Unknown => no_form(),
+    }
+}
+
+fn word_of(s: &[u8]) -> Word
+    ensures { λ r. ⌜ r ≡ wordOf (now (s .entry)) ⌝ }
+{
+    if same(s, b"receive") {
+        return Word::Receive;
+    }
+    if same(s, b"feed") {
+        return Word::Feed;
+    }
+    if same(s, b"settle") {
+        return Word::Settle;
+    }
+    if same(s, b"return") {
+        return Word::Return;
+    }
+    if same(s, b"release") {
+        return Word::Release;
+    }
+    Word::Unknown
+}
+
+// The number behind the first space, which stands at k.
+fn number_behind(t: &[u8], k: usize) -> Number
+    requires { ⌜ k ≡ 0 + length (upTo 32 (now t)) ⌝ }
+    ensures { λ r. ⌜ r ≡ readNumber (behind 32 (now (t .entry))) ⌝ }
+{
+    if k < t.len() {
+        let b = k + 1;
+        return read_number(&t[b..]);
+    }
+    Number::NotANumber
+}
+
+// The settle form whose number stands behind the first space, at k.
+fn settle_behind(t: &[u8], k: usize) -> Line
+    requires { ⌜ k ≡ 0 + length (upTo 32 (now t)) ⌝ }
+    ensures { λ r. ⌜ r ≡ settleRest (behind 32 (now (t .entry))) ⌝ }
+{
+    if k < t.len() {
+        let b = k + 1;
+        return read_settle(&t[b..]);
+    }
+    no_form()
+}
+
+fn read_settle(u: &[u8]) -> Line
+    ensures { λ r. ⌜ r ≡ settleRest (now (u .entry)) ⌝ }
+{
+    let k = place(u, 0, 32);
+    let n = read_number(&u[..k]);
+    let f = read_fields(Vector::Digester, &u[k..]);
+    settle_line(n, f)
+}
+
+fn no_form() -> Line
+    ensures { λ r. ⌜ r ≡ noForm ⌝ }
+{
+    Line {
+        form: Form::NotAForm,
+        sludge: [0; 13],
+        digester: [0; 26],
+    }
+}
+
+fn receive_line(f: Fields) -> Line
+    ensures { λ r. ⌜ r ≡ receiveLine f ⌝ }
+{
+    let ok = f.ok;
+    if ok {
+        let c = f.columns;
+        let v: [u64; 13] = [
+            c[0],
+            c[1],
+            c[2],
+            c[3],
+            c[4],
+            c[5],
+            c[6],
+            c[7],
+            c[8],
+            c[9],
+            c[10],
+            c[11],
+            c[12],
+        ];
+        return Line {
+            form: Form::Asked(Call::Receive),
+            sludge: v,
+            digester: [0; 26],
+        };
+    }
+    no_form()
+}
+
+fn settle_line(n: Number, f: Fields) -> Line
+    ensures { λ r. ⌜ r ≡ settleLine n f ⌝ }
+{
+    match n {
+        Number::Value(g) => settle_fields(g, f),
+        Number::NotANumber => no_form(),
+    }
+}
+
+fn settle_fields(g: u64, f: Fields) -> Line
+    ensures { λ r. ⌜ r ≡ settleFields g f ⌝ }
+{
+    let ok = f.ok;
+    if ok {
+        let d = f.columns;
+        return Line {
+            form: Form::Asked(Call::Settle(Milligrams(g))),
+            sludge: [0; 13],
+            digester: d,
+        };
+    }
+    no_form()
+}
+
+fn number_line(w: Word, n: Number) -> Line
+    ensures { λ r. ⌜ r ≡ numberLine w n ⌝ }
+{
+    match n {
+        Number::Value(k) => bare_line(call_of(w, k)),
+        Number::NotANumber => no_form(),
+    }
+}
+
+fn call_of(w: Word, k: u64) -> Form
+    ensures { λ r. ⌜ r ≡ callOf w k ⌝ }
+{
+    match w {
+        Word::Feed => Form::Asked(Call::Feed(k)),
+        Word::Return => Form::Asked(Call::Return(k)),
+        Word::Release => Form::Asked(Call::Release(k)),
+        Word::Receive => Form::NotAForm,
+        Word::Settle => Form::NotAForm,
+        Word::Unknown => Form::NotAForm,
+    }
+}
+
+fn bare_line(form: Form) -> Line
+    ensures { λ r. ⌜ r ≡ bare form ⌝ }
+{
+    Line {
+        form: form,
+        sludge: [0; 13],
+        digester: [0; 26],
+    }
+}

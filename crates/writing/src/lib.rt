@@ -1,0 +1,11 @@
+// Writing: answers as text into a lent buffer.
+//
+//   put      bytes, numbers and columns into a lent buffer
+//   answer   an answer and the held line as text
+mod answer;
+mod put;
+
+pub use answer::filled_answer;
+pub use answer::write_answer;
+pub use answer::write_held;
+pub use put::put_fitting;
