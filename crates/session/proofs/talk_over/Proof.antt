@@ -1,11 +1,11 @@
--- `sludgeline::talk` meets its contract. Assumes nothing.
+-- `session::talk_over` meets its contract. Assumes nothing.
 use native.Mathlib.Omega.{arith}
 use mathlib.Core.Path.{_≡_}
 use Prim.Native.Nat.{_≤_}
 use lib.ListN.{length}
 use borrow.Author.Needs.{needs}
-use Rattle.sludgeline.proofs.talk.Statement.{statement}
-use Rattle.sludgeline.proofs.talk.Tie as tie
+use Rattle.session.proofs.talk_over.Statement.{statement}
+use Rattle.session.proofs.talk_over.Tie as tie
 
 abbrev Inv-loop : tie.InvT-loop
 Inv-loop input₀ line₀ out₀ p₀ turns₀ input line out p turns = (p .held ≤ 1025) × (p .at ≡ 0) × (length line ≡ 1025) × (length out ≡ 65536) × (length input ≡ length input₀) × (length line₀ ≡ 1025) × (length out₀ ≡ 65536)
@@ -60,8 +60,8 @@ same-length-3 c = search needs
 returns : tie.Need-returns Inv-loop μ-loop
 returns c = search needs
 
-pub talk-spec : {M : Type 1} → statement M
-talk-spec =
+pub talk-over-spec : {M : Type 1} → statement M
+talk-over-spec =
     tie.close
     (tie.spec
     Inv-loop

@@ -1,4 +1,4 @@
--- `sludgeline::answer_all` meets its contract. Assumes nothing.
+-- `session::answer_all` meets its contract. Assumes nothing.
 use mathlib.Core.Path.{_≡_, ap}
 use native.Mathlib.Omega.{arith}
 use Prim.Native.Nat.{_-_, _≤_}
@@ -11,8 +11,8 @@ use Rattle.lines.proofs.Laws.Blocks.{ready-of}
 use Rattle.lines.proofs.Laws.Run.{block-more, block-held}
 use Rattle.lines.proofs.Laws.Carry.{block-carried, carried-none, carried-written, carried-all}
 use borrow.Author.Needs.{needs}
-use Rattle.sludgeline.proofs.answer_all.Statement.{statement}
-use Rattle.sludgeline.proofs.answer_all.Tie as tie
+use Rattle.session.proofs.answer_all.Statement.{statement}
+use Rattle.session.proofs.answer_all.Tie as tie
 
 abbrev Inv-loop : tie.InvT-loop
 Inv-loop block line₀ out₀ q₀ line out q = (q .held ≤ 1025) × (q .at ≡ 0) × (length line ≡ 1025) × (length out ≡ 65536) × (length line₀ ≡ 1025) × (length out₀ ≡ 65536) × (carried q line ≡ core (run house (carried q₀ line₀) (take (q .used) block)))

@@ -1,9 +1,9 @@
--- `sludgeline::write_answers` meets its contract. Assumes nothing.
+-- `session::write_answers` meets its contract. Assumes nothing.
 use mathlib.Core.Path.{sym}
 use lib.Seq.{length-take-le}
 use borrow.Author.Needs.{needs}
-use Rattle.sludgeline.proofs.write_answers.Statement.{statement}
-use Rattle.sludgeline.proofs.write_answers.Tie as tie
+use Rattle.session.proofs.write_answers.Statement.{statement}
+use Rattle.session.proofs.write_answers.Tie as tie
 
 slice-aggregate-write-all : tie.Need-slice-aggregate-write-all
 slice-aggregate-write-all c = sym (length-take-le _ _ (c .before .before .pre))

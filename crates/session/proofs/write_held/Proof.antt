@@ -1,10 +1,10 @@
--- `sludgeline::write_held` meets its contract. Assumes nothing.
+-- `session::write_held` meets its contract. Assumes nothing.
 use mathlib.Core.Path.{sym}
 use native.Mathlib.Omega.{arith}
 use lib.Seq.{length-take-le}
 use borrow.Author.Needs.{needs}
-use Rattle.sludgeline.proofs.write_held.Statement.{statement}
-use Rattle.sludgeline.proofs.write_held.Tie as tie
+use Rattle.session.proofs.write_held.Statement.{statement}
+use Rattle.session.proofs.write_held.Tie as tie
 
 held-line-requires : tie.Need-held-line-requires
 held-line-requires c κs = search needs

@@ -1,8 +1,8 @@
--- `sludgeline::read_once` meets its contract. Assumes nothing.
+-- `session::read_once` meets its contract. Assumes nothing.
 use Rattle.lines.specs.Session.{run}
 use borrow.Author.Needs.{needs}
-use Rattle.sludgeline.proofs.read_once.Statement.{statement}
-use Rattle.sludgeline.proofs.read_once.Tie as tie
+use Rattle.session.proofs.read_once.Statement.{statement}
+use Rattle.session.proofs.read_once.Tie as tie
 
 read-requires : tie.Need-read-requires
 read-requires c κs = search needs
