@@ -3,3 +3,4 @@ pub mod Decimal
 pub mod Buffer
 pub mod Answer
 pub mod OneLine
+pub mod ReadBack

@@ -1,2 +1,3 @@
 pub mod Buffer
 pub mod Answer
+pub mod ReadBack
