@@ -1,0 +1,154 @@
+//! What the tools try on the link. Everything is drawn from a `Random`.
+//!
+//! - `amounts`: columns, vectors and records of every size;
+//! - `edges`: receives and records at the points where the rules branch;
+//! - `proposals`: settles that close, and settles that just do not;
+//! - `damage`: lines that are no forms any more, or nearly not;
+//! - here: a call written as a line, and the choice of the next line.
+
+pub mod amounts;
+pub mod damage;
+pub mod edges;
+pub mod proposals;
+
+use crate::plant::{Call, Plant};
+use crate::random::Random;
+use crate::tables::*;
+use amounts::Scale;
+use std::collections::VecDeque;
+use std::io::Write;
+
+/// A line that follows from the one before it, so that together they reach an edge.
+enum Step {
+    FeedAll,
+    ReturnAll,
+    /// Receives ammonia until the digester's TKN would be this far from a multiple of ixe.
+    ReceiveToMultiple(i64),
+    /// Settles as much COD as inerts as the digester's TKN can return, and this many more.
+    SettleInerts(i64),
+}
+
+/// A source of lines for one record.
+pub struct Trial {
+    pub random: Random,
+    scale: Scale,
+    steps: VecDeque<Step>,
+}
+
+/// Writes a call as a line, its fields in any order and its zeros now and then.
+pub fn form(random: &mut Random, call: &Call) -> Vec<u8> {
+    let mut line = Vec::new();
+    let written = match call {
+        Call::Receive(v) => {
+            line.extend_from_slice(b"(receive");
+            write_fields(random, &ASM1_NAMES, v, &mut line);
+            write!(line, ")")
+        }
+        Call::Settle(gas, v) => {
+            line.extend_from_slice(format!("(settle {gas}").as_bytes());
+            write_fields(random, &DIGESTER_NAMES, v, &mut line);
+            write!(line, ")")
+        }
+        Call::Feed(k) => write!(line, "(feed {k})"),
+        Call::Return(k) => write!(line, "(return {k})"),
+        Call::Release(k) => write!(line, "(release {k})"),
+    };
+    written.expect("a vector takes every byte");
+    line
+}
+
+/// Writes the fields of a vector.
+fn write_fields(random: &mut Random, names: &[&str], v: &[u64], line: &mut Vec<u8>) {
+    let zeros = random.percent(10);
+    let mut order: Vec<usize> = (0..v.len()).collect();
+    if random.percent(50) {
+        random.shuffle(&mut order);
+    }
+    for column in order.into_iter().filter(|&column| zeros || v[column] > 0) {
+        line.extend_from_slice(format!(" ({} {})", names[column], v[column]).as_bytes());
+    }
+}
+
+/// Thousandths to draw: all, any, or one at the edges.
+pub fn thousandths(random: &mut Random) -> u64 {
+    match random.below(10) {
+        0..=3 => 1000,
+        4..=7 => 1 + random.below(1000),
+        8 => random.one_of(&[1, 2, 500, 998, 999]),
+        _ => random.one_of(&[0, 1, 999, 1000, 1001, 1 << 32, u64::MAX]),
+    }
+}
+
+impl Trial {
+    /// A source of lines whose ordinary amounts are of one scale.
+    pub fn new(mut random: Random) -> Trial {
+        let scale = Scale::any(&mut random);
+        Trial { random, scale, steps: VecDeque::new() }
+    }
+
+    /// A record to begin with or to go on with: of any size, at an edge, or above a ceiling.
+    pub fn record(&mut self) -> Plant {
+        match self.random.below(10) {
+            0 => Plant::FRESH,
+            1 => amounts::record_above(&mut self.random, &self.scale),
+            2..=4 => edges::record_at_edge(&mut self.random, &self.scale),
+            _ => amounts::record(&mut self.random, &self.scale),
+        }
+    }
+
+    /// The next line for this record, without its newline.
+    pub fn line(&mut self, plant: &Plant) -> Vec<u8> {
+        if self.random.percent(4) {
+            return damage::junk(&mut self.random);
+        }
+        let call = self.call(plant);
+        let mut line = form(&mut self.random, &call);
+        if self.random.percent(15) {
+            damage::damage(&mut self.random, &mut line);
+        }
+        line
+    }
+
+    /// The next call for this record.
+    pub fn call(&mut self, plant: &Plant) -> Call {
+        match self.steps.pop_front() {
+            Some(Step::FeedAll) => Call::Feed(1000),
+            Some(Step::ReturnAll) => Call::Return(1000),
+            Some(Step::ReceiveToMultiple(off)) => {
+                Call::Receive(edges::ammonia_to_multiple(&plant.digester, off))
+            }
+            Some(Step::SettleInerts(more)) => {
+                Call::Settle(0, proposals::inert_heavy(&plant.digester, more))
+            }
+            None => self.free_call(plant),
+        }
+    }
+
+    /// A call that no step before it asks for.
+    fn free_call(&mut self, plant: &Plant) -> Call {
+        let random = &mut self.random;
+        match random.below(100) {
+            0..=24 => Call::Receive(amounts::asm1(random, &self.scale)),
+            25..=39 => {
+                self.steps.push_back(Step::FeedAll);
+                Call::Receive(edges::receive_to_edge(random, &self.scale, &plant.sludge))
+            }
+            40..=54 => Call::Feed(thousandths(random)),
+            55..=74 => proposals::settle(random, &plant.digester),
+            75..=86 => Call::Return(thousandths(random)),
+            87..=97 => Call::Release(thousandths(random)),
+            _ => self.return_edge(),
+        }
+    }
+
+    /// Starts the steps that bring a return to the edge of refusal 5.
+    fn return_edge(&mut self) -> Call {
+        let off = self.random.one_of(&[-1, 0, 0, 1]);
+        let more = self.random.one_of(&[0, 0, 0, 1]);
+        self.steps.push_back(Step::ReceiveToMultiple(off));
+        self.steps.push_back(Step::FeedAll);
+        self.steps.push_back(Step::SettleInerts(more));
+        self.steps.push_back(Step::ReturnAll);
+        Call::Feed(1000)
+    }
+}
