@@ -63,6 +63,15 @@ addField f (Of c n) =
     (noFields false)
 addField f NotAField = noFields false
 
+-- a field's column, 26 where it is none, and its number
+abbrev pub columnIn : Field → ℕ
+columnIn (Of c n) = c
+columnIn NotAField = 26
+
+abbrev pub numberIn : Field → ℕ
+numberIn (Of c n) = n
+numberIn NotAField = 0
+
 -- nothing stands behind the last bracket
 abbrev pub atEnd : Fields → List ℕ → Fields
 atEnd f [] = f

@@ -1,14 +1,14 @@
 // Fields in brackets.
 ghost use mathlib.Core.Bool.{true, false};
 ghost use mathlib.Core.Path.{_≡_};
-ghost use Prim.Native.Nat.{_≤_};
+ghost use Prim.Native.Nat.{_*_, _≤_};
 ghost use lib.ListN.{length};
-ghost use Rattle.reading.specs.Names.{namesOf};
-ghost use Rattle.reading.specs.Form.{fieldOf, readField, readPiece, noFields, addField, readFields};
+ghost use Rattle.reading.specs.Names.{namesOf, entries};
+ghost use Rattle.reading.specs.Form.{fieldOf, readField, readPiece, noFields, columnIn, numberIn, readFields};
 use crate::bytes::place;
 use crate::names::Column;
 use crate::names::Vector;
-use crate::names::column_of;
+use crate::names::find;
 use crate::number::Number;
 use crate::number::read_number;
 
@@ -25,9 +25,28 @@ pub struct Fields {
     pub seen: [bool; 26],
 }
 
-// None or more fields, each behind a space.
+// None or more fields of a vector, each behind a space.
 pub fn read_fields(v: Vector, s: &[u8]) -> Fields
     ensures { λ r. ⌜ r ≡ readFields (namesOf v) (now (s .entry)) ⌝ }
+{
+    match v {
+        Vector::Sludge => fields_in(
+            b"si  ss  xi  xs  xbh xba xp  so  sno snh snd xnd salk",
+            13,
+            s,
+        ),
+        Vector::Digester => fields_in(
+            b"si  ssu saa sfa sva sbu sprosac sh2 sch4xi  xc  xch xpr xli xsu xaa xfa xc4 xproxac xh2 sin sic co  cn  ",
+            26,
+            s,
+        ),
+    }
+}
+
+// The same by a table of names. A column that is named for the first time gets its number and is marked as seen.
+fn fields_in(table: &[u8], count: usize, s: &[u8]) -> Fields
+    requires { ⌜ (length (now table) ≡ 4 * count) × (count ≤ 26) ⌝ }
+    ensures { λ r. ⌜ r ≡ readFields (entries count (now (table .entry))) (now (s .entry)) ⌝ }
 {
     let mut f = no_fields(true);
     let mut i = 0;
@@ -36,14 +55,17 @@ pub fn read_fields(v: Vector, s: &[u8]) -> Fields
         if s.len() <= e {
             return no_fields(false);
         }
-        let x = read_piece(v, &s[i..e]);
-        f = add_field(f, x);
-        let ok = f.ok;
-        if ok {
-            i = e + 1;
-        } else {
+        let x = read_piece(table, count, &s[i..e]);
+        let c = column_in(x);
+        if 26 <= c {
             return no_fields(false);
         }
+        if f.seen[c] {
+            return no_fields(false);
+        }
+        f.columns[c] = number_in(x);
+        f.seen[c] = true;
+        i = e + 1;
     }
     f
 }
@@ -59,8 +81,9 @@ fn no_fields(ok: bool) -> Fields
 }
 
 // A space, an opening bracket and a field.
-fn read_piece(v: Vector, s: &[u8]) -> Field
-    ensures { λ r. ⌜ r ≡ readPiece (namesOf v) (now (s .entry)) ⌝ }
+fn read_piece(table: &[u8], count: usize, s: &[u8]) -> Field
+    requires { ⌜ (length (now table) ≡ 4 * count) × (count ≤ 26) ⌝ }
+    ensures { λ r. ⌜ r ≡ readPiece (entries count (now (table .entry))) (now (s .entry)) ⌝ }
 {
     if s.len() < 2 {
         return Field::NotAField;
@@ -71,16 +94,17 @@ fn read_piece(v: Vector, s: &[u8]) -> Field
     if s[1] != 40 {
         return Field::NotAField;
     }
-    read_field(v, &s[2..])
+    read_field(table, count, &s[2..])
 }
 
 // A name, a space and a number.
-fn read_field(v: Vector, s: &[u8]) -> Field
-    ensures { λ r. ⌜ r ≡ readField (namesOf v) (now (s .entry)) ⌝ }
+fn read_field(table: &[u8], count: usize, s: &[u8]) -> Field
+    requires { ⌜ (length (now table) ≡ 4 * count) × (count ≤ 26) ⌝ }
+    ensures { λ r. ⌜ r ≡ readField (entries count (now (table .entry))) (now (s .entry)) ⌝ }
 {
     let k = place(s, 0, 32);
     if k < s.len() {
-        let c = column_of(v, &s[..k]);
+        let c = find(table, count, &s[..k]);
         let b = k + 1;
         let n = read_number(&s[b..]);
         return field_of(c, n);
@@ -100,29 +124,22 @@ fn field_of(c: Column, n: Number) -> Field
     }
 }
 
-// The fields with one more.
-fn add_field(f: Fields, x: Field) -> Fields
-    ensures { λ r. ⌜ r ≡ addField f x ⌝ }
+// A field's column, or 26.
+fn column_in(x: Field) -> usize
+    ensures { λ r. ⌜ r ≡ columnIn x ⌝ }
 {
     match x {
-        Field::Of(c, n) => mark(f, c, n),
-        Field::NotAField => no_fields(false),
+        Field::Of(c, n) => c,
+        Field::NotAField => 26,
     }
 }
 
-// A column that is named for the first time gets its number and is marked as seen.
-fn mark(f: Fields, c: usize, n: u64) -> Fields
-    ensures { λ r. ⌜ r ≡ addField f (Field.Of c n) ⌝ }
+// A field's number, or 0.
+fn number_in(x: Field) -> u64
+    ensures { λ r. ⌜ r ≡ numberIn x ⌝ }
 {
-    if 26 <= c {
-        return no_fields(false);
+    match x {
+        Field::Of(c, n) => n,
+        Field::NotAField => 0,
     }
-    if f.seen[c] {
-        return no_fields(false);
-    }
-    let mut g = f;
-    g.ok = true;
-    g.columns[c] = n;
-    g.seen[c] = true;
-    g
 }

@@ -1,9 +1,9 @@
-// Column names: one table for each vector, four bytes a name, and the column that a name stands for.
+// Column names: a table has four bytes a name, and the column that a name stands for is its place there.
 ghost use mathlib.Core.Path.{_≡_};
 ghost use Prim.Native.Nat.{_+_, _*_, _≤_};
 ghost use lib.ListN.{length};
 ghost use Rattle.reading.specs.Text.{sameBytes};
-ghost use Rattle.reading.specs.Names.{entryAt, entries, namesOf, columnFrom, columnOf};
+ghost use Rattle.reading.specs.Names.{entryAt, entries, columnFrom};
 use crate::bytes::place;
 use crate::bytes::same;
 
@@ -19,26 +19,8 @@ pub enum Column {
     Unknown,
 }
 
-// The column of a vector that s names.
-pub fn column_of(v: Vector, s: &[u8]) -> Column
-    ensures { λ r. ⌜ r ≡ columnOf (namesOf v) (now (s .entry)) ⌝ }
-{
-    match v {
-        Vector::Sludge => find(
-            b"si  ss  xi  xs  xbh xba xp  so  sno snh snd xnd salk",
-            13,
-            s,
-        ),
-        Vector::Digester => find(
-            b"si  ssu saa sfa sva sbu sprosac sh2 sch4xi  xc  xch xpr xli xsu xaa xfa xc4 xproxac xh2 sin sic co  cn  ",
-            26,
-            s,
-        ),
-    }
-}
-
 // The first of the table's names that is s.
-fn find(table: &[u8], count: usize, s: &[u8]) -> Column
+pub fn find(table: &[u8], count: usize, s: &[u8]) -> Column
     requires { ⌜ (length (now table) ≡ 4 * count) × (count ≤ 26) ⌝ }
     ensures { λ r. ⌜ r ≡ columnFrom 0 (entries count (now (table .entry))) (now (s .entry)) ⌝ }
 {
@@ -52,8 +34,21 @@ fn find(table: &[u8], count: usize, s: &[u8]) -> Column
     Column::Unknown
 }
 
-// Whether s is the name at place c of the table.
+// Whether s is the name at place c of the table. The second byte tells most names apart.
 fn is_entry(table: &[u8], c: usize, s: &[u8]) -> bool
+    requires { ⌜ (4 * c + 4 ≤ length (now table)) × (c ≤ 26) ⌝ }
+    ensures { λ r. ⌜ r ≡ sameBytes (now (s .entry)) (entryAt (now (table .entry)) c) ⌝ }
+{
+    if 1 < s.len() {
+        if table[4 * c + 1] != s[1] {
+            return false;
+        }
+    }
+    is_whole_entry(table, c, s)
+}
+
+// The same by all bytes.
+fn is_whole_entry(table: &[u8], c: usize, s: &[u8]) -> bool
     requires { ⌜ (4 * c + 4 ≤ length (now table)) × (c ≤ 26) ⌝ }
     ensures { λ r. ⌜ r ≡ sameBytes (now (s .entry)) (entryAt (now (table .entry)) c) ⌝ }
 {

@@ -2,6 +2,7 @@
 --
 --   field-split, field-none                     a field, by the place of its space
 --   piece-..                                    a field behind a space and a bracket
+--   add-none, add-again, add-first, add-marked              a further field: none, one whose column was named, one that is the first
 --   fields-unclosed, fields-go, fields-stop, fields-end   one turn of a loop over fields
 --   form-is, settle-split, ..                   a form, by the place of its first space
 --   line-..                                     a whole line
@@ -12,10 +13,10 @@ use Prim.Native.Nat.{ℕ, suc, _+_, _-_, _≤_, _<_}
 use native.Mathlib.Nat.{zero-add}
 use native.Mathlib.Numerals.{add-one}
 use native.Mathlib.Omega.{arith}
-use lib.Dec.{leb, eqb}
-use lib.ListN.{length, take, drop, getD, drop-of-length-le, length-drop}
+use lib.Dec.{ltb, leb, eqb}
+use lib.ListN.{length, take, drop, getD, set, drop-of-length-le, length-drop}
 use lib.Seq.{drop-drop, take-nil}
-use borrow.Author.Tests.{eq-eqb, ne-eqb, le-leb, lt-leb}
+use borrow.Author.Tests.{eq-eqb, ne-eqb, le-leb, lt-leb, le-ltb, lt-ltb}
 use Rattle.reading.specs.declared.number.Number.{Number}
 use Rattle.reading.specs.declared.number.Number.the-variants.{Value, NotANumber}
 use Rattle.reading.specs.declared.names.Column.{Column}
@@ -24,12 +25,12 @@ use Rattle.reading.specs.declared.names.Vector.the-variants.{Digester}
 use Rattle.reading.specs.declared.form.Word.{Word}
 use Rattle.reading.specs.declared.form.Line.{Line}
 use Rattle.reading.specs.declared.fields.Field.{Field}
-use Rattle.reading.specs.declared.fields.Field.the-variants.{NotAField}
+use Rattle.reading.specs.declared.fields.Field.the-variants.{Of, NotAField}
 use Rattle.reading.specs.declared.fields.Fields.{Fields}
 use Rattle.reading.specs.Text.{upTo, behind, pieces}
 use Rattle.reading.specs.Number.{readNumber}
 use Rattle.reading.specs.Names.{namesOf, columnOf}
-use Rattle.reading.specs.Form.{fieldOf, readField, readPiece, noFields, addField, atEnd, whenOk, readPieces, readFields, noForm, settleLine, settleRest, wordOf, formOf, readForm, inBrackets, readLine}
+use Rattle.reading.specs.Form.{fieldOf, readField, readPiece, noFields, addField, columnIn, numberIn, atEnd, whenOk, readPieces, readFields, noForm, settleLine, settleRest, wordOf, formOf, readForm, inBrackets, readLine}
 use Rattle.reading.proofs.Laws.Text.{rest-of, upTo-place, upTo-take, behind-drop, pieces-cut, pieces-last, pieces-some}
 use Rattle.reading.proofs.Laws.Number.{number-empty}
 
@@ -81,6 +82,35 @@ module _ (names : List (List ℕ)) where
   piece-well [] h p q = absurd (omega arith)
   piece-well (a ∷ []) h p q = absurd (omega arith)
   piece-well (a ∷ (b ∷ s)) h p q = simp (eq-eqb a 32 p, eq-eqb b 40 q)
+
+-- ---- a further field, by its column
+
+pub add-none : (f : Fields) (x : Field) → 26 ≤ columnIn x → addField f x ≡ noFields false
+unfolding addField
+add-none f (Of c n) h = ap (λ (t : Bool). cond t (cond (getD (f .seen) c false) (noFields false) (record { ok = true; columns = set (f .columns) c n; seen = set (f .seen) c true })) (noFields false)) (le-ltb c 26 h)
+add-none f NotAField h = refl
+
+pub add-again : (f : Fields) (x : Field) → getD (f .seen) (columnIn x) false ≡ true → addField f x ≡ noFields false
+unfolding addField
+add-again f (Of c n) e = go (ltb c 26)
+  where
+    go : (t : Bool) → cond t (cond (getD (f .seen) c false) (noFields false) (record { ok = true; columns = set (f .columns) c n; seen = set (f .seen) c true })) (noFields false) ≡ noFields false
+    go true = ap (λ (t : Bool). cond t (noFields false) (record { ok = true; columns = set (f .columns) c n; seen = set (f .seen) c true })) e
+    go false = refl
+add-again f NotAField e = refl
+
+pub add-first : (f : Fields) (x : Field) → columnIn x < 26 → getD (f .seen) (columnIn x) false ≡ false
+    → addField f x ≡ record { ok = true; columns = set (f .columns) (columnIn x) (numberIn x); seen = set (f .seen) (columnIn x) true }
+unfolding addField
+add-first f (Of c n) h e = simp (lt-ltb c 26 h, e)
+add-first f NotAField h e = absurd (omega arith)
+
+-- the same in place, where c is the column and n the number
+pub add-marked : (f : Fields) (x : Field) {c n : ℕ} → f .ok ≡ true → c ≡ columnIn x → n ≡ numberIn x → c < 26 → getD (f .seen) c false ≡ false
+    → record { ok = f .ok; columns = set (f .columns) c n; seen = set (f .seen) c true } ≡ addField f x
+add-marked f x o p q h e =
+    (λ i. record { ok = o i; columns = set (f .columns) (p i) (q i); seen = set (f .seen) (p i) true })
+    ∙ sym (add-first f x (omega (arith, p, h)) (ap (λ (j : ℕ). getD (f .seen) j false) (sym p) ∙ e))
 
 -- ---- a loop over the fields of s, at i, with f so far
 

@@ -3,14 +3,17 @@
 --   column-found, column-next, column-end   a search for a name, one name a turn
 --   entries-at                              the entries of a table, by their places
 --   entry-is, entry-length                  an entry, as the code finds it
+--   entry-other                             an entry with another second byte
 --   sludge-name                             the code's table of ASM1 names
-use mathlib.Core.Bool.{true, false}
+use mathlib.Core.Bool.{Bool, true, false, cond, _&&_, and-false}
 use mathlib.Core.List.{List, [], _∷_}
 use mathlib.Core.Path.{_≡_, refl, sym, ap, _∙_}
 use Prim.Native.Nat.{ℕ, zero, suc, _+_, _-_, _*_, _≤_, _<_}
 use native.Mathlib.Omega.{arith}
 use lib.ListN.{length, take, drop, getD, drop-of-length-le, length-take}
-use lib.Seq.{drop-drop}
+use lib.Dec.{eqb}
+use lib.Seq.{drop-drop, getD-take, getD-drop}
+use borrow.Author.Tests.{ne-eqb}
 use Rattle.reading.specs.declared.names.Vector.the-variants.{Sludge}
 use Rattle.reading.specs.declared.names.Column.the-variants.{At, Unknown}
 use Rattle.reading.specs.Text.{ascii, sameBytes, upTo, space}
@@ -54,6 +57,29 @@ entry-is t c k e = upTo-place space (take (4 * c + 4 - 4 * c) (drop (4 * c) t)) 
 
 pub entry-length : (t : List ℕ) (c : ℕ) → length (entryAt t c) ≤ 4
 entry-length t c = omega (arith, upTo-length space (take 4 (drop (4 * c) t)), length-take 4 (drop (4 * c) t))
+
+-- a name whose second byte is another is another name
+second-other : (b : ℕ) (s l : List ℕ) → 1 < length s → (getD l 1 0 ≡ getD s 1 0 → ⊥) → sameBytes s (upTo b l) ≡ false
+unfolding sameBytes upTo
+second-other b [] l h n = absurd (omega arith)
+second-other b (x ∷ []) l h n = absurd (omega arith)
+second-other b (x ∷ (y ∷ s)) [] h n = refl
+second-other b (x ∷ (y ∷ s)) (p ∷ []) h n = go (eqb p b)
+  where
+    go : (t : Bool) → sameBytes (x ∷ (y ∷ s)) (cond t [] (p ∷ [])) ≡ false
+    go true = refl
+    go false = and-false (eqb x p)
+second-other b (x ∷ (y ∷ s)) (p ∷ (q ∷ l)) h n = go (eqb p b) (eqb q b)
+  where
+    go : (t u : Bool) → sameBytes (x ∷ (y ∷ s)) (cond t [] (p ∷ cond u [] (q ∷ upTo b l))) ≡ false
+    go true u = refl
+    go false true = and-false (eqb x p)
+    go false false = ap (λ (w : Bool). eqb x p && (w && sameBytes s (upTo b l))) (ne-eqb y q (λ e. n (sym e))) ∙ and-false (eqb x p)
+
+pub entry-other : (t : List ℕ) (c : ℕ) (s : List ℕ) → 1 < length s → (getD t (4 * c + 1) 0 ≡ getD s 1 0 → ⊥) → false ≡ sameBytes s (entryAt t c)
+entry-other t c s h n =
+    let e : getD (take 4 (drop (4 * c) t)) 1 0 ≡ getD t (4 * c + 1) 0 = getD-take 4 (drop (4 * c) t) 1 0 (omega arith) ∙ getD-drop (4 * c) t 1 0 in
+    sym (second-other space s (take 4 (drop (4 * c) t)) h (λ q. n (sym e ∙ q)))
 
 pub sludge-table : entries 13 (ascii "si  ss  xi  xs  xbh xba xp  so  sno snh snd xnd salk") ≡ namesOf Sludge
 unfolding entries upTo

@@ -1,7 +1,7 @@
 -- `reading::fields::read_field` meets its contract. Assumes nothing.
 use mathlib.Core.Path.{sym, ap₂, _∙_}
 use lib.Seq.{length-take-le}
-use Rattle.reading.specs.Names.{namesOf}
+use Rattle.reading.specs.Names.{entries}
 use Rattle.reading.specs.Form.{fieldOf}
 use Rattle.reading.proofs.Laws.Form.{field-split, field-none}
 use borrow.Author.Needs.{needs}
@@ -11,11 +11,11 @@ use Rattle.reading.proofs.fields.read_field.Tie as tie
 place-requires : tie.Need-place-requires
 place-requires c κs = search needs
 
-slice-aggregate-column-of : tie.Need-slice-aggregate-column-of
-slice-aggregate-column-of c = sym (length-take-le _ _ (c .before .before .place .ensures .1))
+slice-aggregate-find : tie.Need-slice-aggregate-find
+slice-aggregate-find c = sym (length-take-le _ _ (c .before .before .place .ensures .1))
 
-column-of-requires : tie.Need-column-of-requires
-column-of-requires c κs = search needs
+find-requires : tie.Need-find-requires
+find-requires c κs = search needs
 
 add-b : tie.Need-add-b
 add-b c = search needs
@@ -37,21 +37,21 @@ field-of-requires c κs = search needs
 
 returns : tie.Need-returns
 returns c =
-    let a = c .before .before .before .before .before .before .before .before .args in
+    let a = c .before .before .before .before .before .before .before .before .before .args in
     c .field-of .ensures
-    ∙ ap₂ fieldOf (c .before .before .before .column-of .ensures) (c .before .read-number .ensures)
-    ∙ field-split (namesOf (a .v)) (a .s .now) (c .before .before .before .before .before .before .place .result) (c .before .before .before .before .before .before .place .ensures .0)
+    ∙ ap₂ fieldOf (c .before .before .before .find .ensures) (c .before .read-number .ensures)
+    ∙ field-split (entries (a .count) (a .table .now)) (a .s .now) (c .before .before .before .before .before .before .place .result) (c .before .before .before .before .before .before .place .ensures .0)
 
 returns-2 : tie.Need-returns-2
-returns-2 c = let a = c .before .before .before .args in field-none (namesOf (a .v)) (a .s .now) (c .before .place .result) (c .before .place .ensures .0) (c .if1 .left)
+returns-2 c = let a = c .before .before .before .before .args in field-none (entries (a .count) (a .table .now)) (a .s .now) (c .before .place .result) (c .before .place .ensures .0) (c .if1 .left)
 
 pub read-field-spec : {M : Type 1} → statement M
 read-field-spec =
     tie.close
     (tie.spec
     place-requires
-    slice-aggregate-column-of
-    column-of-requires
+    slice-aggregate-find
+    find-requires
     add-b
     sub-read-number
     part-read-number-start

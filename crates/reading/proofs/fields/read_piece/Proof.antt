@@ -1,7 +1,7 @@
 -- `reading::fields::read_piece` meets its contract. Assumes nothing.
 use mathlib.Core.Path.{ap, _∙_}
 use native.Mathlib.Omega.{arith}
-use Rattle.reading.specs.Names.{namesOf}
+use Rattle.reading.specs.Names.{entries}
 use Rattle.reading.specs.Form.{readField}
 use Rattle.reading.proofs.Laws.Text.{rest-of}
 use Rattle.reading.proofs.Laws.Form.{piece-short, piece-first, piece-second, piece-well}
@@ -38,10 +38,10 @@ read-field-requires c κs = search needs
 
 returns-4 : tie.Need-returns-4
 returns-4 c =
-    let a = c .before .before .before .before .before .before .before .before .args in
+    let a = c .before .before .before .before .before .before .before .before .before .args in
     c .read-field .ensures
-    ∙ ap (readField (namesOf (a .v))) (rest-of (a .s .now) 2)
-    ∙ piece-well (namesOf (a .v)) (a .s .now) (omega arith) (c .before .before .before .before .if2 .left) (c .before .before .if3 .left)
+    ∙ ap (readField (entries (a .count) (a .table .now))) (rest-of (a .s .now) 2)
+    ∙ piece-well (entries (a .count) (a .table .now)) (a .s .now) (omega arith) (c .before .before .before .before .if2 .left) (c .before .before .if3 .left)
 
 pub read-piece-spec : {M : Type 1} → statement M
 read-piece-spec =

@@ -1,56 +1,38 @@
 -- `reading::names::is_entry` meets its contract. Assumes nothing.
-use mathlib.Core.Path.{_≡_, sym, ap, _∙_}
-use Prim.Native.Nat.{ℕ, _+_, _-_, _*_}
-use lib.ListN.{take, drop}
-use native.Mathlib.Omega.{arith}
-use lib.Seq.{length-take-le}
-use Rattle.reading.specs.Text.{sameBytes, upTo}
-use Rattle.reading.proofs.Laws.Text.{upTo-place}
+use Rattle.reading.proofs.Laws.Names.{entry-other}
 use borrow.Author.Needs.{needs}
 use Rattle.reading.proofs.names.is_entry.Statement.{statement}
 use Rattle.reading.proofs.names.is_entry.Tie as tie
 
-mul-start : tie.Need-mul-start
-mul-start c = search needs
+mul-if2 : tie.Need-mul-if2
+mul-if2 c = search needs
 
-add-end : tie.Need-add-end
-add-end c = search needs
+add-if2 : tie.Need-add-if2
+add-if2 c = search needs
 
-sub-entry : tie.Need-sub-entry
-sub-entry c = search needs
+shared-slice-read-if2 : tie.Need-shared-slice-read-if2
+shared-slice-read-if2 c = search needs
 
-part-entry-start : tie.Need-part-entry-start
-part-entry-start c = search needs
-
-part-entry-end : tie.Need-part-entry-end
-part-entry-end c = search needs
-
-place-requires : tie.Need-place-requires
-place-requires c κs = search needs
-
-slice-aggregate-same : tie.Need-slice-aggregate-same
-slice-aggregate-same c = sym (length-take-le _ _ (c .before .place .ensures .1))
-
-same-requires : tie.Need-same-requires
-same-requires c κs = search needs
+shared-slice-read-if2-2 : tie.Need-shared-slice-read-if2-2
+shared-slice-read-if2-2 c = search needs
 
 returns : tie.Need-returns
-returns c =
-    let a = c .before .before .before .before .before .before .args in
-    let four : 4 * a .c + 4 - 4 * a .c ≡ 4 = omega arith in
-    c .same .ensures
-    ∙ ap (sameBytes (a .s .now)) (upTo-place 32 _ (c .before .before .place .result) (c .before .before .place .ensures .0) ∙ ap (λ (m : ℕ). upTo 32 (take m (drop (4 * a .c) (a .table .now)))) four)
+returns c = let a = c .before .before .before .before .before .before .args in entry-other (a .table .now) (a .c) (a .s .now) (c .before .before .before .if1 .taken) (c .if2 .taken)
+
+is-whole-entry-requires : tie.Need-is-whole-entry-requires
+is-whole-entry-requires c κs = search needs
+
+returns-2 : tie.Need-returns-2
+returns-2 c = search needs
 
 pub is-entry-spec : {M : Type 1} → statement M
 is-entry-spec =
     tie.close
     (tie.spec
-    mul-start
-    add-end
-    sub-entry
-    part-entry-start
-    part-entry-end
-    place-requires
-    slice-aggregate-same
-    same-requires
-    returns)
+    mul-if2
+    add-if2
+    shared-slice-read-if2
+    shared-slice-read-if2-2
+    returns
+    is-whole-entry-requires
+    returns-2)
