@@ -32,8 +32,32 @@ pub fn find_byte(s: &[u8], from: usize, b: u8) -> usize
     place(s, from, b)
 }
 
-// The same where from is not behind the end.
+// The same where from is not behind the end, four bytes a turn.
 pub fn place(s: &[u8], from: usize, b: u8) -> usize
+    requires { ⌜ from ≤ length (now s) ⌝ }
+    ensures { λ r. ⌜ (r ≡ from + length (upTo b (drop from (now (s .entry))))) × (r ≤ length (now (s .entry))) ⌝ }
+{
+    let mut i = from;
+    while 3 < s.len() - i {
+        if s[i] == b {
+            return i;
+        }
+        if s[i + 1] == b {
+            return i + 1;
+        }
+        if s[i + 2] == b {
+            return i + 2;
+        }
+        if s[i + 3] == b {
+            return i + 3;
+        }
+        i += 4;
+    }
+    place_near(s, i, b)
+}
+
+// The same, byte by byte.
+fn place_near(s: &[u8], from: usize, b: u8) -> usize
     requires { ⌜ from ≤ length (now s) ⌝ }
     ensures { λ r. ⌜ (r ≡ from + length (upTo b (drop from (now (s .entry))))) × (r ≤ length (now (s .entry))) ⌝ }
 {

@@ -2,7 +2,7 @@
 --
 --   head-at                         the element at i, and the rest
 --   same-..                         comparing two byte strings, one byte a turn
---   up-here, up-next, up-end        a search for the first b, one byte a turn
+--   up-here, up-next, up-past, up-end   a search for the first b, one byte a turn
 --   upTo-take, upTo-place, upTo-length, behind-drop   what a search has found, by its place
 --   rest-of                         a part of a slice that goes to its end
 --   pieces-cut, pieces-last, pieces-some  cutting behind each b
@@ -57,6 +57,10 @@ module _ (b : ℕ) (s : List ℕ) (i : ℕ) where
   pub up-next : i < length s → (getD s i 0 ≡ b → ⊥) → length (upTo b (drop i s)) ≡ length (upTo b (drop (i + 1) s)) + 1
   unfolding upTo
   up-next h e = simp (head-at s 0 i h, ne-eqb (getD s i 0) b e, add-one)
+
+  -- the same, where j is the next place
+  pub up-past : (j : ℕ) → j ≡ i + 1 → i < length s → (getD s i 0 ≡ b → ⊥) → length (upTo b (drop i s)) ≡ length (upTo b (drop j s)) + 1
+  up-past j q h e = up-next h e ∙ ap (λ (k : ℕ). length (upTo b (drop k s)) + 1) (sym q)
 
   pub up-end : length s ≤ i → length (upTo b (drop i s)) ≡ 0
   unfolding upTo
