@@ -5,7 +5,7 @@
 --   added-..             the sum: its length, a column
 --   top, within-top      the highest ceiling of a table bounds every column
 --   added-fits           so that sums fit 64 bits
-use mathlib.Core.Bool.{Bool, true, false, _&&_, and-false}
+use mathlib.Core.Bool.{Bool, true, false, cond, _&&_, and-false}
 use mathlib.Core.List.{List, [], _∷_, _++_}
 use mathlib.Core.Path.{_≡_, refl, sym, ap, _∙_}
 use Prim.Native.Nat.{ℕ, zero, suc, _+_, _≤_, _<_, max, zero-le}
@@ -100,6 +100,20 @@ within-end cs [] zero h = refl
 within-end cs [] (suc i) h = refl
 within-end cs (x ∷ v) zero h = absurd (omega arith)
 within-end cs (x ∷ v) (suc i) h = within-end cs v i (omega arith)
+
+-- a test that goes on to the end
+module _ (cs v : List ℕ) (i : ℕ) {new : Bool} where
+  pub within-over : getD cs i 0 < getD v i 0 → new ≡ false → cond new (within (drop (i + 1) cs) (drop (i + 1) v)) false ≡ within cs v
+  within-over h e = ap (λ (t : Bool). cond t (within (drop (i + 1) cs) (drop (i + 1) v)) false) e ∙ sym (within-above cs v i h)
+
+  pub within-on : {ok : Bool} → length v ≡ length cs → i < length v → getD v i 0 ≤ getD cs i 0 → new ≡ ok → cond ok (within (drop i cs) (drop i v)) false ≡ within cs v
+      → cond new (within (drop (i + 1) cs) (drop (i + 1) v)) false ≡ within cs v
+  within-on {ok} n h p e q =
+      ap (λ (t : Bool). cond t (within (drop (i + 1) cs) (drop (i + 1) v)) false) e ∙ ap (λ (t : Bool). cond ok t false) (sym (within-step cs v i n h p)) ∙ q
+
+pub within-told : (ok : Bool) (cs v : List ℕ) (i : ℕ) → length v ≤ i → cond ok (within (drop i cs) (drop i v)) false ≡ within cs v → ok ≡ within cs v
+within-told true cs v i h e = sym (within-end (drop i cs) v i h) ∙ e
+within-told false cs v i h e = e
 
 -- from the test to the inequalities
 pub within-below : (cs v : List ℕ) → within cs v ≡ true → Below cs v
