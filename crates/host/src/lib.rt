@@ -6,7 +6,7 @@
 mod record;
 mod told;
 
-ghost use Rattle.interface.specs.Figures.{house};
+ghost use Rattle.vectors.specs.Figures.{house};
 ghost use Rattle.host.specs.Calls.{LineCalled, HeldCalled, FeedCalled};
 use record::plant_at;
 use record::put_plant;

@@ -1,9 +1,4 @@
--- The laws of specs/Laws.antt, one file for each file of specs/.
-pub mod Units
-pub mod Columns
-pub mod Figures
-pub mod Totals
-pub mod Draw
+-- Laws of the conversions.
 pub mod Feed
 pub mod Return
 pub mod Plants

@@ -15,10 +15,10 @@ use mathlib.Core.List.{List}
 use Prim.Native.Nat.{ℕ, _+_, _-_, _*_, _/_, min}
 use lib.Dec.{ltb, eqb}
 use lib.ListN.{replicate}
-use Rattle.interface.specs.declared.figures.Figures.{Figures}
+use Rattle.vectors.specs.declared.figures.Figures.{Figures}
 use Rattle.interface.specs.declared.feed.Fed.{Fed}
-use Rattle.interface.specs.Columns.{Asm1, asm1, Digester, digesterColumns}
-use Rattle.interface.specs.Units.{milligrams, ticks}
+use Rattle.vectors.specs.Columns.{Asm1, asm1, Digester, digesterColumns}
+use Rattle.vectors.specs.Units.{milligrams, ticks}
 
 -- ---- Stage 1: oxygen, then nitrate, burn COD (004, "COD Demand")
 

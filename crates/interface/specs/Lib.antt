@@ -1,10 +1,5 @@
-pub mod Columns
-pub mod Figures
-pub mod Totals
-pub mod Draw
-pub mod Units
 pub mod Feed
-pub mod Held
 pub mod Return
+pub mod Held
 pub mod Plants
 pub mod Laws

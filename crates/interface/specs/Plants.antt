@@ -13,10 +13,10 @@ use Prim.Native.String.{String}
 use lib.Text.{eqt}
 use Rattle.interface.specs.declared.feed.Fed.{Fed}
 use Rattle.interface.specs.declared.returning.Returned.{Returned}
-use Rattle.interface.specs.Columns.{asm1Names, digesterNames}
-use Rattle.interface.specs.Figures.{house}
-use Rattle.interface.specs.Draw.{drawn}
-use Rattle.interface.specs.Units.{milligrams, ticks}
+use Rattle.vectors.specs.Columns.{asm1Names, digesterNames}
+use Rattle.vectors.specs.Figures.{house}
+use Rattle.vectors.specs.Draw.{drawn}
+use Rattle.vectors.specs.Units.{milligrams, ticks}
 use Rattle.interface.specs.Feed.{feedRefused, feedOf}
 use Rattle.interface.specs.Return.{returnRefused, returnOf}
 

@@ -13,11 +13,11 @@ use mathlib.Core.List.{List}
 use Prim.Native.Nat.{ℕ, _+_, _-_, _*_}
 use lib.Dec.{ltb}
 use lib.ListN.{replicate}
-use Rattle.interface.specs.declared.figures.Figures.{Figures}
+use Rattle.vectors.specs.declared.figures.Figures.{Figures}
 use Rattle.interface.specs.declared.returning.Returned.{Returned}
-use Rattle.interface.specs.Columns.{Asm1, asm1Columns, Digester, digester}
-use Rattle.interface.specs.Totals.{degraders}
-use Rattle.interface.specs.Units.{milligrams}
+use Rattle.vectors.specs.Columns.{Asm1, asm1Columns, Digester, digester}
+use Rattle.vectors.specs.Totals.{degraders}
+use Rattle.vectors.specs.Units.{milligrams}
 
 -- ---- COD (004, "COD Conversions", "Dissolved Gaseous COD")
 

@@ -2,21 +2,21 @@
 ghost use mathlib.Core.Bool.{true};
 ghost use mathlib.Core.Path.{_≡_};
 ghost use Prim.Native.Nat.{_+_, _-_, _*_, _/_, _≤_};
-ghost use Rattle.interface.specs.Columns.{Below, asm1Ceilings, asm1Columns};
-ghost use Rattle.interface.specs.Figures.{Permitted};
-ghost use Rattle.interface.specs.Units.{asm1Counts, digesterCounts};
+ghost use Rattle.vectors.specs.Columns.{Below, asm1Ceilings, asm1Columns};
+ghost use Rattle.vectors.specs.Figures.{Permitted};
+ghost use Rattle.vectors.specs.Units.{asm1Counts, digesterCounts};
 ghost use Rattle.interface.specs.Feed.{nitrateRule, ceil, warnOf, stage1, stage2, stage3, stage4, stage5, stages, fedVector, feedRefused, feedTaken, feedAsm1, feedOf};
 ghost use Rattle.interface.specs.Held.{Low, Demands, Leaves, AcidsHeld, InertsHeld, RemainsHeld, StagesHeld};
-use crate::columns::Asm1;
-use crate::columns::Digester;
-use crate::columns::asm1_of;
-use crate::columns::digester_array;
-use crate::figures::Figures;
-use crate::units::Milligrams;
-use crate::units::Ticks;
-use crate::units::afforded;
-use crate::units::nitrogen;
-use crate::units::share;
+use vectors::Asm1;
+use vectors::Digester;
+use vectors::Figures;
+use vectors::Milligrams;
+use vectors::Ticks;
+use vectors::afforded;
+use vectors::asm1_of;
+use vectors::digester_array;
+use vectors::nitrogen;
+use vectors::share;
 
 // What a feed conversion gives: refusal 0 with the vector and the numbers told, or a refusal with zeros.
 pub struct Fed {

@@ -1,20 +1,20 @@
 // Return: a digester vector becomes an ASM1 vector.
 ghost use mathlib.Core.Path.{_≡_};
 ghost use Prim.Native.Nat.{_+_, _*_, _≤_};
-ghost use Rattle.interface.specs.Columns.{Below, digesterCeilings};
-ghost use Rattle.interface.specs.Figures.{Permitted};
-ghost use Rattle.interface.specs.Units.{asm1Counts, digesterCounts};
-ghost use Rattle.interface.specs.Totals.{degraders};
+ghost use Rattle.vectors.specs.Columns.{Below, digesterCeilings};
+ghost use Rattle.vectors.specs.Figures.{Permitted};
+ghost use Rattle.vectors.specs.Units.{asm1Counts, digesterCounts};
+ghost use Rattle.vectors.specs.Totals.{degraders};
 ghost use Rattle.interface.specs.Return.{soluble, particulate, nitrogenOf, taken, returnedVector, returnRefused, returnTaken, returnDigester, returnOf};
 ghost use Rattle.interface.specs.Held.{LowDigester, nitrogenCounts};
-use crate::columns::Asm1;
-use crate::columns::Digester;
-use crate::columns::asm1_array;
-use crate::columns::digester_of;
-use crate::figures::Figures;
-use crate::units::Milligrams;
-use crate::units::Ticks;
-use crate::units::nitrogen;
+use vectors::Asm1;
+use vectors::Digester;
+use vectors::Figures;
+use vectors::Milligrams;
+use vectors::Ticks;
+use vectors::asm1_array;
+use vectors::digester_of;
+use vectors::nitrogen;
 
 // What a return conversion gives: refusal 0 with the vector and the COD stripped, or a refusal with zeros.
 pub struct Returned {

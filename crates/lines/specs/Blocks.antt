@@ -16,7 +16,7 @@ use mathlib.Core.List.{List, []}
 use Prim.Native.Nat.{ℕ, zero, suc, _+_, _-_}
 use lib.Dec.{ltb, leb, eqb}
 use lib.ListN.{length, take, drop}
-use Rattle.interface.specs.declared.figures.Figures.{Figures}
+use Rattle.vectors.specs.declared.figures.Figures.{Figures}
 use Rattle.plant.specs.declared.record.Plant.{Plant}
 use Rattle.lines.specs.declared.blocks.Place.{Place}
 use Rattle.reading.specs.Text.{newline, upTo}

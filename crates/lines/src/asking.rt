@@ -2,7 +2,7 @@
 ghost use mathlib.Core.Path.{_≡_};
 ghost use denote.Ref.{ptr};
 ghost use lib.ListN.{take};
-ghost use Rattle.interface.specs.Figures.{house};
+ghost use Rattle.vectors.specs.Figures.{house};
 ghost use Rattle.lines.specs.Asking.{formOutcome, LineAnswered, HeldAnswered};
 use plant::Outcome;
 use plant::Plant;

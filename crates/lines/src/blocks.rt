@@ -4,7 +4,7 @@ ghost use Prim.Native.Nat.{_+_, _-_, _≤_, _<_};
 ghost use mathlib.Core.Bool.{_&&_};
 ghost use lib.Dec.{ltb};
 ghost use lib.ListN.{length, take};
-ghost use Rattle.interface.specs.Figures.{house};
+ghost use Rattle.vectors.specs.Figures.{house};
 ghost use Rattle.writing.specs.Buffer.{Put};
 ghost use Rattle.lines.specs.Session.{answerOf, afterLine};
 ghost use Rattle.lines.specs.Blocks.{fits, room, desk, lineIn, through, stepOf, blockOf, lastOf};

@@ -16,9 +16,9 @@ use mathlib.Core.Bool.{Bool, true, false, cond}
 use mathlib.Core.List.{List, [], _∷_}
 use mathlib.Core.Path.{_≡_}
 use Prim.Native.Nat.{ℕ, _+_}
-use Rattle.interface.specs.declared.figures.Figures.{Figures}
-use Rattle.interface.specs.Figures.{Permitted}
-use Rattle.interface.specs.Totals.{asm1Cod, asm1Tkn, asm1Oxygen, asm1Nitrate, digesterCod, digesterTkn, digesterOxygen, digesterNitrate}
+use Rattle.vectors.specs.declared.figures.Figures.{Figures}
+use Rattle.vectors.specs.Figures.{Permitted}
+use Rattle.vectors.specs.Totals.{asm1Cod, asm1Tkn, asm1Oxygen, asm1Nitrate, digesterCod, digesterTkn, digesterOxygen, digesterNitrate}
 use Rattle.plant.specs.declared.record.Plant.{Plant}
 use Rattle.plant.specs.declared.answer.Answer.{Answer}
 use Rattle.plant.specs.declared.answer.Answer.the-variants.{Received, Fed, Settled, Returned, Released, Refused}

@@ -14,13 +14,13 @@ use mathlib.Core.Path.{_≡_}
 use Prim.Native.Nat.{ℕ, _+_}
 use lib.Dec.{eqb}
 use lib.ListN.{replicate}
-use Rattle.interface.specs.declared.figures.Figures.{Figures}
+use Rattle.vectors.specs.declared.figures.Figures.{Figures}
 use Rattle.interface.specs.declared.feed.Fed.{Fed}
 use Rattle.interface.specs.declared.returning.Returned.{Returned}
-use Rattle.interface.specs.declared.units.Milligrams.{Milligrams}
-use Rattle.interface.specs.Columns.{asm1Ceilings, digesterCeilings, within, added}
-use Rattle.interface.specs.Draw.{drawn, rest}
-use Rattle.interface.specs.Totals.{digesterCod, digesterTkn, digesterOxygen, digesterNitrate}
+use Rattle.vectors.specs.declared.units.Milligrams.{Milligrams}
+use Rattle.vectors.specs.Columns.{asm1Ceilings, digesterCeilings, within, added}
+use Rattle.vectors.specs.Draw.{drawn, rest}
+use Rattle.vectors.specs.Totals.{digesterCod, digesterTkn, digesterOxygen, digesterNitrate}
 use Rattle.interface.specs.Feed.{feedOf}
 use Rattle.interface.specs.Return.{returnOf}
 use Rattle.plant.specs.declared.record.Plant.{Plant}

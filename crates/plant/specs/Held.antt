@@ -1,8 +1,8 @@
 -- Held: document 01, "Lines in brackets": COD, TKN, oxygen and nitrate summed over all three tanks, or refusal 1 with zeros.
 use mathlib.Core.Bool.{cond}
 use Prim.Native.Nat.{ℕ}
-use Rattle.interface.specs.declared.figures.Figures.{Figures}
-use Rattle.interface.specs.Units.{milligrams, ticks}
+use Rattle.vectors.specs.declared.figures.Figures.{Figures}
+use Rattle.vectors.specs.Units.{milligrams, ticks}
 use Rattle.plant.specs.declared.record.Plant.{Plant}
 use Rattle.plant.specs.declared.holding.HeldTotals.{HeldTotals}
 use Rattle.plant.specs.Record.{recordWithin}

@@ -10,7 +10,7 @@ use mathlib.Core.List.{List}
 use Prim.Native.Nat.{ℕ}
 use lib.Dec.{leb}
 use lib.ListN.{replicate}
-use Rattle.interface.specs.Columns.{asm1Ceilings, digesterCeilings, within}
+use Rattle.vectors.specs.Columns.{asm1Ceilings, digesterCeilings, within}
 use Rattle.plant.specs.declared.record.Plant.{Plant}
 
 abbrev pub noColumns : List ℕ

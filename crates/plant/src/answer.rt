@@ -2,8 +2,8 @@
 ghost use mathlib.Core.Path.{_≡_};
 ghost use Rattle.plant.specs.Answer.{refused};
 use crate::record::Plant;
-use interface::Milligrams;
-use interface::Ticks;
+use vectors::Milligrams;
+use vectors::Ticks;
 
 // A call. Feed, Return and Release have their k, and Settle its gas COD.
 pub enum Call {

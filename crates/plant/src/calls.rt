@@ -1,6 +1,6 @@
 // Any of the five calls, by a request.
 ghost use mathlib.Core.Path.{_≡_};
-ghost use Rattle.interface.specs.Figures.{house};
+ghost use Rattle.vectors.specs.Figures.{house};
 ghost use Rattle.plant.specs.Calls.{step};
 use crate::answer::Call;
 use crate::answer::Outcome;

@@ -1,6 +1,6 @@
 // Feed draws k thousandths of the sludge tank, converts them and adds them to the digester.
 ghost use mathlib.Core.Path.{_≡_};
-ghost use Rattle.interface.specs.Figures.{house};
+ghost use Rattle.vectors.specs.Figures.{house};
 ghost use Rattle.plant.specs.Answer.{first, decide};
 ghost use Rattle.plant.specs.Calls.{step, feeding, fedTests, fed};
 use crate::answer::Answer;
@@ -17,9 +17,9 @@ pub fn feed(plant: Plant, k: u64) -> Outcome
     if record_within(plant) {
         if is_thousandths(k) {
             let sludge = plant.sludge;
-            let drawn = interface::asm1_drawn(sludge, k);
-            let rest = interface::asm1_rest(sludge, k);
-            let o = interface::feed_of(interface::HOUSE, drawn);
+            let drawn = vectors::asm1_drawn(sludge, k);
+            let rest = vectors::asm1_rest(sludge, k);
+            let o = interface::feed_of(vectors::HOUSE, drawn);
             return feed_converted(plant, o, rest);
         }
         return refusal(plant, 2);
@@ -35,8 +35,8 @@ fn feed_converted(plant: Plant, o: interface::Fed, rest: [u64; 13]) -> Outcome
     if n == 0 {
         let digester = plant.digester;
         let vector = o.vector;
-        if interface::digester_sum_within(digester, vector) {
-            let sum = interface::digester_sum(digester, vector);
+        if vectors::digester_sum_within(digester, vector) {
+            let sum = vectors::digester_sum(digester, vector);
             let reject = plant.reject;
             let next = Plant {
                 sludge: rest,

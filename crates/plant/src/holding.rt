@@ -1,14 +1,14 @@
 // What is in the three tanks.
 ghost use mathlib.Core.Path.{_≡_};
 ghost use Prim.Native.Nat.{_+_};
-ghost use Rattle.interface.specs.Columns.{Below, asm1Ceilings, digesterCeilings};
-ghost use Rattle.interface.specs.Figures.{house};
+ghost use Rattle.vectors.specs.Columns.{Below, asm1Ceilings, digesterCeilings};
+ghost use Rattle.vectors.specs.Figures.{house};
 ghost use Rattle.plant.specs.Held.{heldOf};
-ghost use Rattle.interface.specs.Totals.{asm1Cod, asm1Tkn, digesterCod, digesterTkn};
+ghost use Rattle.vectors.specs.Totals.{asm1Cod, asm1Tkn, digesterCod, digesterTkn};
 use crate::record::Plant;
 use crate::record::record_within;
-use interface::Milligrams;
-use interface::Ticks;
+use vectors::Milligrams;
+use vectors::Ticks;
 
 // COD, TKN, oxygen and nitrate of all three tanks, or a refusal with zeros.
 pub struct HeldTotals {
@@ -48,9 +48,9 @@ fn cod_in(s: [u64; 13], d: [u64; 26], j: [u64; 13]) -> Milligrams
     requires { ⌜ (Below asm1Ceilings s) × ((Below digesterCeilings d) × (Below asm1Ceilings j)) ⌝ }
     ensures { λ r. ⌜ r .0 ≡ asm1Cod s + digesterCod d + asm1Cod j ⌝ }
 {
-    let a = interface::asm1_cod(s);
-    let b = interface::digester_cod(d);
-    let c = interface::asm1_cod(j);
+    let a = vectors::asm1_cod(s);
+    let b = vectors::digester_cod(d);
+    let c = vectors::asm1_cod(j);
     Milligrams(a.0 + b.0 + c.0)
 }
 
@@ -58,8 +58,8 @@ fn tkn_in(s: [u64; 13], d: [u64; 26], j: [u64; 13]) -> Ticks
     requires { ⌜ (Below asm1Ceilings s) × ((Below digesterCeilings d) × (Below asm1Ceilings j)) ⌝ }
     ensures { λ r. ⌜ r .0 ≡ asm1Tkn house s + digesterTkn house d + asm1Tkn house j ⌝ }
 {
-    let a = interface::asm1_tkn(interface::HOUSE, s);
-    let b = interface::digester_tkn(interface::HOUSE, d);
-    let c = interface::asm1_tkn(interface::HOUSE, j);
+    let a = vectors::asm1_tkn(vectors::HOUSE, s);
+    let b = vectors::digester_tkn(vectors::HOUSE, d);
+    let c = vectors::asm1_tkn(vectors::HOUSE, j);
     Ticks(a.0 + b.0 + c.0)
 }

@@ -1,6 +1,6 @@
 // Receive adds an ASM1 vector to the sludge tank.
 ghost use mathlib.Core.Path.{_≡_};
-ghost use Rattle.interface.specs.Figures.{house};
+ghost use Rattle.vectors.specs.Figures.{house};
 ghost use Rattle.plant.specs.Calls.{step, receiving};
 use crate::answer::Answer;
 use crate::answer::Outcome;
@@ -13,10 +13,10 @@ pub fn receive(plant: Plant, v: [u64; 13]) -> Outcome
     ensures { λ r. ⌜ r ≡ step house plant (receiving v) ⌝ }
 {
     if record_within(plant) {
-        if interface::asm1_within(v) {
+        if vectors::asm1_within(v) {
             let sludge = plant.sludge;
-            if interface::asm1_sum_within(sludge, v) {
-                let sum = interface::asm1_sum(sludge, v);
+            if vectors::asm1_sum_within(sludge, v) {
+                let sum = vectors::asm1_sum(sludge, v);
                 let digester = plant.digester;
                 let reject = plant.reject;
                 let next = Plant {

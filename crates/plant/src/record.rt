@@ -27,9 +27,9 @@ pub fn record_within(p: Plant) -> bool
     let sludge = p.sludge;
     let digester = p.digester;
     let reject = p.reject;
-    if interface::asm1_within(sludge) {
-        if interface::digester_within(digester) {
-            return interface::asm1_within(reject);
+    if vectors::asm1_within(sludge) {
+        if vectors::digester_within(digester) {
+            return vectors::asm1_within(reject);
         }
     }
     false

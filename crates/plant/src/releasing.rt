@@ -1,6 +1,6 @@
 // Release draws k thousandths of the reject tank and hands them out.
 ghost use mathlib.Core.Path.{_≡_};
-ghost use Rattle.interface.specs.Figures.{house};
+ghost use Rattle.vectors.specs.Figures.{house};
 ghost use Rattle.plant.specs.Calls.{step, releasing};
 use crate::answer::Answer;
 use crate::answer::Outcome;
@@ -16,8 +16,8 @@ pub fn release(plant: Plant, k: u64) -> Outcome
     if record_within(plant) {
         if is_thousandths(k) {
             let reject = plant.reject;
-            let drawn = interface::asm1_drawn(reject, k);
-            let rest = interface::asm1_rest(reject, k);
+            let drawn = vectors::asm1_drawn(reject, k);
+            let rest = vectors::asm1_rest(reject, k);
             let sludge = plant.sludge;
             let digester = plant.digester;
             let next = Plant {

@@ -1,6 +1,6 @@
 // Return draws k thousandths of the digester, converts them and adds them to the reject tank.
 ghost use mathlib.Core.Path.{_≡_};
-ghost use Rattle.interface.specs.Figures.{house};
+ghost use Rattle.vectors.specs.Figures.{house};
 ghost use Rattle.plant.specs.Answer.{first, decide};
 ghost use Rattle.plant.specs.Calls.{step, returning, returnedTests, returned};
 use crate::answer::Answer;
@@ -17,9 +17,9 @@ pub fn give_back(plant: Plant, k: u64) -> Outcome
     if record_within(plant) {
         if is_thousandths(k) {
             let digester = plant.digester;
-            let drawn = interface::digester_drawn(digester, k);
-            let rest = interface::digester_rest(digester, k);
-            let o = interface::return_of(interface::HOUSE, drawn);
+            let drawn = vectors::digester_drawn(digester, k);
+            let rest = vectors::digester_rest(digester, k);
+            let o = interface::return_of(vectors::HOUSE, drawn);
             return return_converted(plant, o, rest);
         }
         return refusal(plant, 2);
@@ -35,8 +35,8 @@ fn return_converted(plant: Plant, o: interface::Returned, rest: [u64; 26]) -> Ou
     if n == 0 {
         let reject = plant.reject;
         let vector = o.vector;
-        if interface::asm1_sum_within(reject, vector) {
-            let sum = interface::asm1_sum(reject, vector);
+        if vectors::asm1_sum_within(reject, vector) {
+            let sum = vectors::asm1_sum(reject, vector);
             let sludge = plant.sludge;
             let next = Plant {
                 sludge: sludge,

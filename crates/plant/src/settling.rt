@@ -3,9 +3,9 @@ ghost use mathlib.Core.Path.{_≡_};
 ghost use mathlib.Core.Bool.{_&&_};
 ghost use Prim.Native.Nat.{_+_};
 ghost use lib.Dec.{eqb};
-ghost use Rattle.interface.specs.Columns.{Below, digesterCeilings};
-ghost use Rattle.interface.specs.Figures.{house};
-ghost use Rattle.interface.specs.Totals.{digesterCod, digesterTkn, digesterOxygen, digesterNitrate};
+ghost use Rattle.vectors.specs.Columns.{Below, digesterCeilings};
+ghost use Rattle.vectors.specs.Figures.{house};
+ghost use Rattle.vectors.specs.Totals.{digesterCod, digesterTkn, digesterOxygen, digesterNitrate};
 ghost use Rattle.plant.specs.Answer.{first};
 ghost use Rattle.plant.specs.Calls.{step, settling, settledTests};
 use crate::answer::Answer;
@@ -13,14 +13,14 @@ use crate::answer::Outcome;
 use crate::answer::refusal;
 use crate::record::Plant;
 use crate::record::record_within;
-use interface::Milligrams;
+use vectors::Milligrams;
 
 // Refusals 1, 3, 7, 8 and 9.
 pub fn settle(plant: Plant, gas: Milligrams, d: [u64; 26]) -> Outcome
     ensures { λ r. ⌜ r ≡ step house plant (settling gas d) ⌝ }
 {
     if record_within(plant) {
-        if interface::digester_within(d) {
+        if vectors::digester_within(d) {
             let old = plant.digester;
             let n = open_balance(old, gas, d);
             if n == 0 {
@@ -49,13 +49,9 @@ fn open_balance(old: [u64; 26], gas: Milligrams, d: [u64; 26]) -> u64
     requires { ⌜ (Below digesterCeilings old) × (Below digesterCeilings d) ⌝ }
     ensures { λ r. ⌜ r ≡ first (settledTests house old gas d) ⌝ }
 {
-    if cod_closes(
-        interface::digester_cod(old),
-        interface::digester_cod(d),
-        gas,
-    ) {
-        let a = interface::digester_tkn(interface::HOUSE, old);
-        let b = interface::digester_tkn(interface::HOUSE, d);
+    if cod_closes(vectors::digester_cod(old), vectors::digester_cod(d), gas) {
+        let a = vectors::digester_tkn(vectors::HOUSE, old);
+        let b = vectors::digester_tkn(vectors::HOUSE, d);
         if a.0 == b.0 {
             if carried_same(old, d) {
                 return 0;

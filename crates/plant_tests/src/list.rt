@@ -137,9 +137,9 @@ fn cod(n: u64) -> Amounts {
 
 // The totals of an ASM1 vector.
 fn totals_of(v: [u64; 13]) -> Amounts {
-    if interface::asm1_within(v) {
-        let c = interface::asm1_cod(v);
-        let n = interface::asm1_tkn(interface::HOUSE, v);
+    if vectors::asm1_within(v) {
+        let c = vectors::asm1_cod(v);
+        let n = vectors::asm1_tkn(vectors::HOUSE, v);
         return Amounts {
             cod: c.0,
             tkn: n.0,
@@ -193,7 +193,7 @@ fn settling(p: Plant, x: u64) -> Request {
     d[23] = x % 1000;
     let more = if x % 4 == 0 { 1 } else { 0 };
     Request {
-        call: Call::Settle(interface::Milligrams(std::num::wrapping_add_u64(vent, more))),
+        call: Call::Settle(vectors::Milligrams(std::num::wrapping_add_u64(vent, more))),
         sludge: [0; 13],
         digester: d,
     }

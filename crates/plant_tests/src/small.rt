@@ -143,7 +143,7 @@ fn call_of(c: u64, n: u64) -> Call {
     match c {
         1 => Call::Receive,
         2 => Call::Feed(n),
-        3 => Call::Settle(interface::Milligrams(n)),
+        3 => Call::Settle(vectors::Milligrams(n)),
         4 => Call::Return(n),
         _ => Call::Release(n),
     }

@@ -8,7 +8,7 @@ use Prim.Native.Nat.{ℕ}
 use Prim.Native.String.{String}
 use lib.ListN.{replicate}
 use Rattle.interface.specs.Plants.{Named, _is_, asm1Named, digesterNamed}
-use Rattle.interface.specs.Units.{milligrams}
+use Rattle.vectors.specs.Units.{milligrams}
 use Rattle.plant.specs.declared.answer.Call.the-variants as call
 use Rattle.reading.specs.declared.form.Form.the-variants.{Asked}
 use Rattle.reading.specs.declared.form.Line.{Line}

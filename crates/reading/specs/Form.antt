@@ -12,8 +12,8 @@ use mathlib.Core.List.{List, [], _∷_}
 use Prim.Native.Nat.{ℕ, _+_, _-_}
 use lib.Dec.{leb, ltb, eqb}
 use lib.ListN.{length, take, drop, getD, set, replicate}
-use Rattle.interface.specs.Columns.{asm1, asm1Columns}
-use Rattle.interface.specs.Units.{milligrams}
+use Rattle.vectors.specs.Columns.{asm1, asm1Columns}
+use Rattle.vectors.specs.Units.{milligrams}
 use Rattle.plant.specs.declared.answer.Call.{Call}
 use Rattle.plant.specs.declared.answer.Call.the-variants as call
 use Rattle.reading.specs.declared.number.Number.{Number}

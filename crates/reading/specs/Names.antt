@@ -8,7 +8,7 @@ use mathlib.Core.Bool.{cond}
 use mathlib.Core.List.{List, [], _∷_, map}
 use Prim.Native.Nat.{ℕ, zero, suc, _+_, _*_}
 use lib.ListN.{take, drop}
-use Rattle.interface.specs.Columns.{asm1Names, digesterNames}
+use Rattle.vectors.specs.Columns.{asm1Names, digesterNames}
 use Rattle.reading.specs.declared.names.Vector.{Vector}
 use Rattle.reading.specs.declared.names.Vector.the-variants.{Sludge, Digester}
 use Rattle.reading.specs.declared.names.Column.{Column}

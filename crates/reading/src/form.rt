@@ -12,8 +12,8 @@ use crate::fields::read_fields;
 use crate::names::Vector;
 use crate::number::Number;
 use crate::number::read_number;
-use interface::Milligrams;
 use plant::Call;
+use vectors::Milligrams;
 
 // What a line asks.
 pub enum Form {

@@ -2,7 +2,7 @@
 ghost use mathlib.Core.Path.{_≡_};
 ghost use Prim.Native.Nat.{_≤_};
 ghost use lib.ListN.{length, take};
-ghost use Rattle.interface.specs.Figures.{house};
+ghost use Rattle.vectors.specs.Figures.{house};
 ghost use Rattle.lines.specs.Session.{run};
 ghost use Rattle.lines.specs.Blocks.{core, carried};
 use libc::STDIN_FILENO;

@@ -32,9 +32,9 @@ fn digester_of(xi: u64, xc: u64, sin: u64) -> [u64; 26] {
 // One feed: the plant's letter, and the whole of a sludge vector fed.
 fn feed(letter: u8, v: [u64; 13]) {
     begin(letter);
-    if interface::asm1_within(v) {
-        let c = interface::asm1_drawn(v, 1000);
-        let o = interface::feed_of(interface::HOUSE, c);
+    if vectors::asm1_within(v) {
+        let c = vectors::asm1_drawn(v, 1000);
+        let o = interface::feed_of(vectors::HOUSE, c);
         show::number(b" refusal ", o.refusal);
         show::number(b" D ", o.burnt.0);
         show::number(b" o ", o.oxygen.0);
@@ -49,9 +49,9 @@ fn feed(letter: u8, v: [u64; 13]) {
 // One return.
 fn give_back(letter: u8, v: [u64; 26]) {
     begin(letter);
-    if interface::digester_within(v) {
-        let c = interface::digester_drawn(v, 1000);
-        let o = interface::return_of(interface::HOUSE, c);
+    if vectors::digester_within(v) {
+        let c = vectors::digester_drawn(v, 1000);
+        let o = interface::return_of(vectors::HOUSE, c);
         show::number(b" refusal ", o.refusal);
         show::number(b" stripped ", o.stripped.0);
         let s = o.vector;

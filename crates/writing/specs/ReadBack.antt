@@ -14,7 +14,7 @@ use Prim.{Unit}
 use Prim.Native.Nat.{ℕ, zero, suc, _+_, _-_, _*_, _^_, _<_}
 use lib.Dec.{eqb}
 use lib.ListN.{length, getD}
-use Rattle.interface.specs.Units.{milligrams, ticks}
+use Rattle.vectors.specs.Units.{milligrams, ticks}
 use Rattle.plant.specs.declared.answer.Answer.{Answer}
 use Rattle.plant.specs.declared.answer.Answer.the-variants.{Received, Fed, Settled, Returned, Released, Refused}
 use Rattle.reading.specs.Number.{isDigit}

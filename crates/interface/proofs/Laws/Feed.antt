@@ -13,15 +13,15 @@ use Prim.Native.Nat.{ℕ, _+_, _-_, _*_, _/_, _≤_, min}
 use native.Mathlib.Omega.{arith}
 use lib.Dec.{ltb}
 use borrow.Author.Tests.{ltb-false}
-use Rattle.interface.specs.declared.figures.Figures.{Figures}
+use Rattle.vectors.specs.declared.figures.Figures.{Figures}
 use Rattle.interface.specs.declared.feed.Fed.{Fed}
-use Rattle.interface.specs.declared.columns.Asm1 as inAsm1
-use Rattle.interface.specs.Columns.{Asm1, asm1, asm1Columns, asm1Ceilings, Below}
-use Rattle.interface.specs.Units.{asm1Counts}
+use Rattle.vectors.specs.declared.columns.Asm1 as inAsm1
+use Rattle.vectors.specs.Columns.{Asm1, asm1, asm1Columns, asm1Ceilings, Below}
+use Rattle.vectors.specs.Units.{asm1Counts}
 use Rattle.interface.specs.Held.{Low}
 use Rattle.interface.specs.Feed.{NitrateRule, nitrateRule, ceil, warnOf, Stage1, Stage2, Stage4, Stage5, stage1, stage2, stage3, stage4, stage5, stages, feedRefused, feedTaken, feedAsm1, feedOf}
 use Rattle.interface.specs.Laws.{FeedKeeps, FeedLaw}
-use Rattle.interface.proofs.Laws.Units.{afford, share-le}
+use Rattle.vectors.proofs.Laws.Units.{afford, share-le}
 
 -- ---- stage 1
 

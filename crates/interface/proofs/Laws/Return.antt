@@ -11,11 +11,11 @@ use mathlib.Core.Path.{_≡_, refl, sym, subst}
 use Prim.Native.Nat.{ℕ, _+_, _*_}
 use native.Mathlib.Omega.{arith}
 use borrow.Author.Tests.{ltb-false}
-use Rattle.interface.specs.declared.figures.Figures.{Figures}
+use Rattle.vectors.specs.declared.figures.Figures.{Figures}
 use Rattle.interface.specs.declared.returning.Returned.{Returned}
-use Rattle.interface.specs.declared.columns.Digester as inDigester
-use Rattle.interface.specs.Columns.{Digester, digester, digesterColumns, digesterCeilings, Below}
-use Rattle.interface.specs.Units.{digesterCounts}
+use Rattle.vectors.specs.declared.columns.Digester as inDigester
+use Rattle.vectors.specs.Columns.{Digester, digester, digesterColumns, digesterCeilings, Below}
+use Rattle.vectors.specs.Units.{digesterCounts}
 use Rattle.interface.specs.Held.{LowDigester}
 use Rattle.interface.specs.Return.{Nitrogen, nitrogenOf, taken, returnShort, returnRefused, returnTaken, returnDigester, returnOf}
 use Rattle.interface.specs.Laws.{ReturnKeeps, ReturnLaw}

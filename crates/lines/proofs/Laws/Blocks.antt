@@ -17,8 +17,8 @@ use lib.Dec.{ltb, leb, eqb}
 use lib.ListN.{length, take, drop, length-take, length-drop, drop-of-length-le}
 use lib.Seq.{drop-drop}
 use borrow.Author.Tests.{lt-ltb, le-ltb, le-leb, eq-eqb, leb-true, eqb-true}
-use Rattle.interface.specs.declared.figures.Figures.{Figures}
-use Rattle.interface.proofs.Laws.Columns.{both-true}
+use Rattle.vectors.specs.declared.figures.Figures.{Figures}
+use Rattle.vectors.proofs.Laws.Columns.{both-true}
 use Rattle.plant.specs.declared.record.Plant.{Plant}
 use Rattle.plant.specs.declared.answer.Outcome.{Outcome}
 use Rattle.lines.specs.declared.asking.LineOutcome.{LineOutcome}

@@ -13,7 +13,7 @@ use native.Mathlib.Omega.{arith}
 use lib.Dec.{eqb}
 use lib.ListN.{length, take, drop}
 use lib.Seq.{take-all, take-add}
-use Rattle.interface.specs.declared.figures.Figures.{Figures}
+use Rattle.vectors.specs.declared.figures.Figures.{Figures}
 use Rattle.lines.specs.declared.blocks.Place.{Place}
 use Rattle.reading.specs.Text.{newline}
 use Rattle.lines.specs.Session.{State, kept, run, ended}

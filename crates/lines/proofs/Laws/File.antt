@@ -4,9 +4,9 @@
 use mathlib.Core.List.{List}
 use mathlib.Core.Path.{_≡_, ap, sym, _∙_}
 use Prim.Native.Nat.{ℕ, _+_}
-use Rattle.interface.specs.declared.figures.Figures.{Figures}
-use Rattle.interface.specs.Figures.{Permitted}
-use Rattle.interface.specs.Totals.{asm1Cod, asm1Tkn, asm1Oxygen, asm1Nitrate}
+use Rattle.vectors.specs.declared.figures.Figures.{Figures}
+use Rattle.vectors.specs.Figures.{Permitted}
+use Rattle.vectors.specs.Totals.{asm1Cod, asm1Tkn, asm1Oxygen, asm1Nitrate}
 use Rattle.plant.specs.declared.record.Plant.{Plant}
 use Rattle.plant.specs.declared.answer.Request.{Request}
 use Rattle.plant.specs.declared.holding.HeldTotals.{HeldTotals}

@@ -22,8 +22,8 @@ use lib.Dec.{ltb, leb, eqb}
 use lib.ListN.{length, take, drop, length-append, length-take, length-drop}
 use lib.Seq.{take-all, take-add, drop-drop, take-at, take-append-add, length-take-le}
 use borrow.Author.Tests.{eqb-true, ltb-true, ltb-false}
-use Rattle.interface.specs.declared.figures.Figures.{Figures}
-use Rattle.interface.proofs.Laws.Columns.{both-true}
+use Rattle.vectors.specs.declared.figures.Figures.{Figures}
+use Rattle.vectors.proofs.Laws.Columns.{both-true}
 use Rattle.plant.specs.declared.record.Plant.{Plant}
 use Rattle.lines.specs.declared.blocks.Place.{Place}
 use Rattle.reading.specs.Text.{newline, upTo}

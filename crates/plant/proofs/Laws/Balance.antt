@@ -13,19 +13,19 @@ use Prim.Native.Nat.{ℕ, _+_, _≤_}
 use native.Mathlib.Omega.{arith}
 use lib.Dec.{eqb}
 use borrow.Author.Tests.{eqb-true}
-use Rattle.interface.specs.declared.figures.Figures.{Figures}
+use Rattle.vectors.specs.declared.figures.Figures.{Figures}
 use Rattle.interface.specs.declared.feed.Fed as inFed
 use Rattle.interface.specs.declared.returning.Returned as inReturned
-use Rattle.interface.specs.declared.units.Milligrams.{Milligrams}
-use Rattle.interface.specs.Columns.{asm1Ceilings, digesterCeilings, within, added}
-use Rattle.interface.specs.Figures.{Permitted}
-use Rattle.interface.specs.Draw.{drawn, rest}
-use Rattle.interface.specs.Totals.{asm1Cod, asm1Tkn, asm1Oxygen, asm1Nitrate, digesterCod, digesterTkn, digesterOxygen, digesterNitrate}
+use Rattle.vectors.specs.declared.units.Milligrams.{Milligrams}
+use Rattle.vectors.specs.Columns.{asm1Ceilings, digesterCeilings, within, added}
+use Rattle.vectors.specs.Figures.{Permitted}
+use Rattle.vectors.specs.Draw.{drawn, rest}
+use Rattle.vectors.specs.Totals.{asm1Cod, asm1Tkn, asm1Oxygen, asm1Nitrate, digesterCod, digesterTkn, digesterOxygen, digesterNitrate}
 use Rattle.interface.specs.Feed.{feedOf}
 use Rattle.interface.specs.Return.{returnOf}
-use Rattle.interface.specs.Laws.{Linear}
-use Rattle.interface.proofs.Laws.Columns.{both-true}
-use Rattle.interface.proofs.Laws.Totals.{total-laws}
+use Rattle.vectors.specs.Laws.{Linear}
+use Rattle.vectors.proofs.Laws.Columns.{both-true}
+use Rattle.vectors.proofs.Laws.Totals.{total-laws}
 use Rattle.interface.proofs.Laws.Feed.{feed-keeps}
 use Rattle.interface.proofs.Laws.Return.{return-keeps}
 use Rattle.plant.specs.declared.record.Plant.{Plant}

@@ -12,9 +12,9 @@ use Prim.Native.Nat.{ℕ, _+_, _-_, _≤_, _<_}
 use native.Mathlib.Omega.{arith}
 use lib.Dec.{leb, eqb}
 use borrow.Author.Tests.{leb-true, eqb-true, eqb-false, eq-eqb, ne-eqb}
-use Rattle.interface.specs.Columns.{asm1Ceilings, digesterCeilings, within, Below}
-use Rattle.interface.proofs.Laws.Columns.{both-true, within-below}
-use Rattle.interface.specs.declared.figures.Figures.{Figures}
+use Rattle.vectors.specs.Columns.{asm1Ceilings, digesterCeilings, within, Below}
+use Rattle.vectors.proofs.Laws.Columns.{both-true, within-below}
+use Rattle.vectors.specs.declared.figures.Figures.{Figures}
 use Rattle.plant.specs.declared.record.Plant.{Plant}
 use Rattle.plant.specs.declared.holding.HeldTotals.{HeldTotals}
 use Rattle.plant.specs.Record.{recordWithin, thousandths}

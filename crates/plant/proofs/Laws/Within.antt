@@ -14,11 +14,11 @@ use Prim.Native.Nat.{ℕ}
 use native.Mathlib.Omega.{arith}
 use lib.Dec.{leb}
 use borrow.Author.Tests.{leb-true, le-leb}
-use Rattle.interface.specs.declared.figures.Figures.{Figures}
-use Rattle.interface.specs.declared.units.Milligrams.{Milligrams}
-use Rattle.interface.specs.Columns.{asm1Ceilings, digesterCeilings, within}
-use Rattle.interface.specs.Draw.{remainder, rest}
-use Rattle.interface.proofs.Laws.Columns.{both-true}
+use Rattle.vectors.specs.declared.figures.Figures.{Figures}
+use Rattle.vectors.specs.declared.units.Milligrams.{Milligrams}
+use Rattle.vectors.specs.Columns.{asm1Ceilings, digesterCeilings, within}
+use Rattle.vectors.specs.Draw.{remainder, rest}
+use Rattle.vectors.proofs.Laws.Columns.{both-true}
 use Rattle.plant.specs.declared.record.Plant.{Plant}
 use Rattle.plant.specs.declared.answer.Call.{Call}
 use Rattle.plant.specs.declared.answer.Call.the-variants as call

@@ -3,7 +3,7 @@ use mathlib.Core.Path.{_≡_, ap}
 use native.Mathlib.Omega.{arith}
 use Prim.Native.Nat.{_-_, _≤_}
 use lib.ListN.{length}
-use Rattle.interface.specs.Figures.{house}
+use Rattle.vectors.specs.Figures.{house}
 use lib.ListN.{take}
 use Rattle.lines.specs.Session.{run}
 use Rattle.lines.specs.Blocks.{Desk, desk, stateOf, core, carried}

@@ -1,9 +1,9 @@
 -- `worked_plants::feed` meets its contract. Assumes nothing.
 use mathlib.Core.Path.{sym, _∙_}
 use lib.Dec.{lit≤}
-use Rattle.interface.specs.Columns.{asm1Ceilings}
-use Rattle.interface.proofs.Laws.Figures.{house-permitted}
-use Rattle.interface.proofs.Laws.Draw.{drawn-below}
+use Rattle.vectors.specs.Columns.{asm1Ceilings}
+use Rattle.vectors.proofs.Laws.Figures.{house-permitted}
+use Rattle.vectors.proofs.Laws.Draw.{drawn-below}
 use borrow.Author.Needs.{needs}
 use Rattle.worked_plants.proofs.feed.Statement.{statement}
 use Rattle.worked_plants.proofs.feed.Tie as tie

@@ -1,9 +1,9 @@
 -- `worked_plants::give_back` meets its contract. Assumes nothing.
 use mathlib.Core.Path.{sym, _∙_}
 use lib.Dec.{lit≤}
-use Rattle.interface.specs.Columns.{digesterCeilings}
-use Rattle.interface.proofs.Laws.Figures.{house-permitted}
-use Rattle.interface.proofs.Laws.Draw.{drawn-below}
+use Rattle.vectors.specs.Columns.{digesterCeilings}
+use Rattle.vectors.proofs.Laws.Figures.{house-permitted}
+use Rattle.vectors.proofs.Laws.Draw.{drawn-below}
 use borrow.Author.Needs.{needs}
 use Rattle.worked_plants.proofs.give_back.Statement.{statement}
 use Rattle.worked_plants.proofs.give_back.Tie as tie

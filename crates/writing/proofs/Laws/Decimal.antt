@@ -15,7 +15,7 @@ use lib.Dec.{leb}
 use lib.ListN.{length, length-append}
 use borrow.Author.Tests.{leb-true, leb-false, le-leb, lt-leb, lt-ltb}
 use Rattle.io.specs.Digits.{digits, glyph, Fewest}
-use Rattle.interface.proofs.Laws.Columns.{both-true}
+use Rattle.vectors.proofs.Laws.Columns.{both-true}
 use Rattle.reading.specs.Number.{isDigit, allDigits, valueAfter, placesFrom, decimal}
 
 -- a number of more than m + 1 digits has no fewer than m + 2

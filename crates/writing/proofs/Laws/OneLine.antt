@@ -14,7 +14,7 @@ use lib.Dec.{ltb, eqb}
 use lib.ListN.{getD}
 use borrow.Author.Tests.{ne-eqb}
 use Rattle.io.specs.Digits.{digits, glyph}
-use Rattle.interface.proofs.Laws.Columns.{both-true}
+use Rattle.vectors.proofs.Laws.Columns.{both-true}
 use Rattle.plant.specs.declared.answer.Answer.{Answer}
 use Rattle.plant.specs.declared.answer.Answer.the-variants.{Received, Fed, Settled, Returned, Released, Refused}
 use Rattle.plant.specs.declared.holding.HeldTotals.{HeldTotals}

@@ -14,8 +14,8 @@ use Prim.Native.Nat.{ℕ, zero, suc, _+_, _-_, _*_, _≤_, _<_}
 use native.Mathlib.Omega.{arith}
 use lib.ListN.{length, take, getD}
 use lib.Seq.{take-suc, take-all}
-use Rattle.interface.specs.Units.{milligrams, ticks}
-use Rattle.interface.proofs.Laws.Columns.{both-true}
+use Rattle.vectors.specs.Units.{milligrams, ticks}
+use Rattle.vectors.proofs.Laws.Columns.{both-true}
 use Rattle.plant.specs.declared.answer.Answer.the-variants.{Received, Fed, Settled, Returned, Released, Refused}
 use Rattle.reading.specs.Text.{ascii}
 use Rattle.reading.specs.Number.{isDigit, allDigits, valueAfter, decimal}

@@ -1,7 +1,7 @@
 -- `interface::feed::feed_taken` meets its contract. Assumes nothing.
-use Rattle.interface.specs.Units.{milligrams, ticks}
+use Rattle.vectors.specs.Units.{milligrams, ticks}
 use mathlib.Core.Path.{ap, _∙_}
-use Rattle.interface.specs.Columns.{digesterColumns}
+use Rattle.vectors.specs.Columns.{digesterColumns}
 use borrow.Author.Needs.{needs}
 use Rattle.interface.proofs.feed.feed_taken.Statement.{statement}
 use Rattle.interface.proofs.feed.feed_taken.Tie as tie

@@ -1,5 +1,5 @@
 -- `interface::feed::inerts_of` meets its contract. Assumes nothing.
-use Rattle.interface.specs.Units.{asm1Counts}
+use Rattle.vectors.specs.Units.{asm1Counts}
 use Rattle.interface.specs.Feed.{stage4}
 use Rattle.interface.proofs.Laws.Feed.{stage4-is}
 use native.Mathlib.Omega.{arith}

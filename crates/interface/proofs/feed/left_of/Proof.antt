@@ -1,6 +1,6 @@
 -- `interface::feed::left_of` meets its contract. Assumes nothing.
 use mathlib.Core.Path.{refl}
-use Rattle.interface.proofs.Laws.Units.{minus}
+use Rattle.vectors.proofs.Laws.Units.{minus}
 use Rattle.interface.proofs.Laws.Feed.{warn-is}
 use native.Mathlib.Omega.{arith}
 use Rattle.interface.specs.Feed.{stage1}

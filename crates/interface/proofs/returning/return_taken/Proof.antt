@@ -1,8 +1,8 @@
 -- `interface::returning::return_taken` meets its contract. Assumes nothing.
 use native.Mathlib.Omega.{arith}
 use mathlib.Core.Path.{ap, _∙_}
-use Rattle.interface.specs.Columns.{asm1Columns}
-use Rattle.interface.specs.Units.{milligrams, digesterCounts}
+use Rattle.vectors.specs.Columns.{asm1Columns}
+use Rattle.vectors.specs.Units.{milligrams, digesterCounts}
 use Rattle.interface.specs.Return.{stripped, returnedVector}
 use borrow.Author.Needs.{needs}
 use Rattle.interface.proofs.returning.return_taken.Statement.{statement}

@@ -1,6 +1,6 @@
 -- `lines::asking::form_outcome` meets its contract. Assumes nothing.
 use mathlib.Core.Path.{sym, ap, _∙_}
-use Rattle.interface.specs.Figures.{house}
+use Rattle.vectors.specs.Figures.{house}
 use Rattle.reading.specs.declared.form.Form.{Form}
 use Rattle.lines.specs.Asking.{askedOutcome}
 use borrow.Author.Needs.{needs}

@@ -3,7 +3,7 @@ use mathlib.Core.Path.{_≡_, refl, sym, ap, _∙_}
 use native.Mathlib.Omega.{arith}
 use Prim.Native.Nat.{_-_, _≤_}
 use lib.ListN.{length}
-use Rattle.interface.specs.Figures.{house}
+use Rattle.vectors.specs.Figures.{house}
 use Rattle.lines.specs.Blocks.{Desk, desk, blockOf}
 use Rattle.lines.proofs.Laws.Run.{step-bounds, block-step, block-done}
 use borrow.Author.Needs.{needs}

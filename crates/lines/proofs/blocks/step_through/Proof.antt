@@ -3,7 +3,7 @@ use mathlib.Core.Path.{sym, ap}
 use native.Mathlib.Omega.{arith}
 use lib.Seq.{length-take-le}
 use Rattle.lines.specs.Blocks.{room, lineIn}
-use Rattle.interface.specs.Figures.{house}
+use Rattle.vectors.specs.Figures.{house}
 use Rattle.writing.proofs.Laws.Buffer.{put-same}
 use Rattle.lines.proofs.Laws.Blocks.{part-line, room-fits, through-newline, through-end}
 use borrow.Author.Needs.{needs}

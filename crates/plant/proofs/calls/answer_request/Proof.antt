@@ -1,6 +1,6 @@
 -- `plant::calls::answer_request` meets its contract. Assumes nothing.
 use mathlib.Core.Path.{sym, ap, _∙_}
-use Rattle.interface.specs.Figures.{house}
+use Rattle.vectors.specs.Figures.{house}
 use Rattle.plant.specs.Calls.{stepBy}
 use borrow.Author.Needs.{needs}
 use Rattle.plant.proofs.calls.answer_request.Statement.{statement}

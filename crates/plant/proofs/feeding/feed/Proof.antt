@@ -1,10 +1,10 @@
 -- `plant::feeding::feed` meets its contract. Assumes nothing.
 use mathlib.Core.Path.{ap, _∙_}
-use Rattle.interface.specs.Columns.{asm1Ceilings}
-use Rattle.interface.specs.Figures.{house}
+use Rattle.vectors.specs.Columns.{asm1Ceilings}
+use Rattle.vectors.specs.Figures.{house}
 use Rattle.interface.specs.Feed.{feedOf}
-use Rattle.interface.proofs.Laws.Figures.{house-permitted}
-use Rattle.interface.proofs.Laws.Draw.{drawn-below}
+use Rattle.vectors.proofs.Laws.Figures.{house-permitted}
+use Rattle.vectors.proofs.Laws.Draw.{drawn-below}
 use Rattle.plant.specs.Answer.{first, decide}
 use Rattle.plant.specs.Calls.{fedTests, fed, feed}
 use Rattle.plant.proofs.Laws.Record.{sludge-within, thousandths-le}

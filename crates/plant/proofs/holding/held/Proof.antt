@@ -1,10 +1,10 @@
 -- `plant::holding::held` meets its contract. Assumes nothing.
 use Rattle.plant.proofs.Laws.Record.{record-below}
 -- `plant::holding::held` meets its contract. Assumes nothing.
-use Rattle.interface.specs.Figures.{house}
+use Rattle.vectors.specs.Figures.{house}
 use Rattle.plant.specs.Balance.{oxygenIn, nitrateIn}
 use native.Mathlib.Omega.{arith}
-use Rattle.interface.specs.Units.{milligrams, ticks}
+use Rattle.vectors.specs.Units.{milligrams, ticks}
 use Rattle.plant.proofs.Laws.Record.{held-within, held-refused}
 use Rattle.plant.proofs.Laws.Decision.{flag}
 use borrow.Author.Needs.{needs}

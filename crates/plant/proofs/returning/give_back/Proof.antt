@@ -1,10 +1,10 @@
 -- `plant::returning::give_back` meets its contract. Assumes nothing.
 use mathlib.Core.Path.{ap, _∙_}
-use Rattle.interface.specs.Columns.{digesterCeilings}
-use Rattle.interface.specs.Figures.{house}
+use Rattle.vectors.specs.Columns.{digesterCeilings}
+use Rattle.vectors.specs.Figures.{house}
 use Rattle.interface.specs.Return.{returnOf}
-use Rattle.interface.proofs.Laws.Figures.{house-permitted}
-use Rattle.interface.proofs.Laws.Draw.{drawn-below}
+use Rattle.vectors.proofs.Laws.Figures.{house-permitted}
+use Rattle.vectors.proofs.Laws.Draw.{drawn-below}
 use Rattle.plant.specs.Answer.{first, decide}
 use Rattle.plant.specs.Calls.{returnedTests, returned, giveBack}
 use Rattle.plant.proofs.Laws.Record.{digester-within, thousandths-le}

@@ -1,8 +1,8 @@
 -- `plant::settling::settle` meets its contract. Assumes nothing.
 use Rattle.plant.specs.Answer.{refused}
 use mathlib.Core.Path.{refl, sym, ap, _∙_}
-use Rattle.interface.specs.Columns.{digesterCeilings}
-use Rattle.interface.proofs.Laws.Columns.{within-below}
+use Rattle.vectors.specs.Columns.{digesterCeilings}
+use Rattle.vectors.proofs.Laws.Columns.{within-below}
 use Rattle.plant.specs.Calls.{settle}
 use Rattle.plant.proofs.Laws.Record.{digester-within}
 use Rattle.plant.proofs.Laws.Decision.{stop, pass, decide-none, decide-refused, flag}

@@ -1,8 +1,8 @@
 -- `plant_tests::list::totals_of` meets its contract. Assumes nothing.
 use mathlib.Core.Path.{sym, _∙_}
-use Rattle.interface.specs.Columns.{asm1Ceilings}
-use Rattle.interface.proofs.Laws.Columns.{within-below}
-use Rattle.interface.proofs.Laws.Figures.{house-permitted}
+use Rattle.vectors.specs.Columns.{asm1Ceilings}
+use Rattle.vectors.proofs.Laws.Columns.{within-below}
+use Rattle.vectors.proofs.Laws.Figures.{house-permitted}
 use borrow.Author.Needs.{needs}
 use Rattle.plant_tests.proofs.list.totals_of.Statement.{statement}
 use Rattle.plant_tests.proofs.list.totals_of.Tie as tie

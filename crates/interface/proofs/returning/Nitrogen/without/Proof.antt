@@ -1,7 +1,7 @@
 -- `interface::returning::Nitrogen::without` meets its contract. Assumes nothing.
 use mathlib.Core.Path.{refl}
 use Rattle.interface.specs.Return.{taken}
-use Rattle.interface.proofs.Laws.Units.{minus}
+use Rattle.vectors.proofs.Laws.Units.{minus}
 use borrow.Author.Needs.{needs}
 use Rattle.interface.proofs.returning.Nitrogen.without.Statement.{statement}
 use Rattle.interface.proofs.returning.Nitrogen.without.Tie as tie

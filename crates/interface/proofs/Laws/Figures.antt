@@ -1,6 +1,0 @@
--- The house set is permitted. Assumes nothing.
-use native.Mathlib.Omega.{arith}
-use Rattle.interface.specs.Figures.{house, Permitted}
-
-pub house-permitted : Permitted house
-house-permitted = omega arith

@@ -1,0 +1,6 @@
+-- Laws of vectors, by topic.
+pub mod Units
+pub mod Columns
+pub mod Figures
+pub mod Draw
+pub mod Totals
