@@ -14,7 +14,7 @@ use lib.Seq.{take-all, take-add, drop-drop, getD-take, getD-drop, length-take-le
 use Rattle.writing.specs.Buffer.{putAt}
 use Rattle.writing.proofs.Laws.Buffer.{put-more}
 use Rattle.plant.specs.declared.record.Plant.{Plant}
-use Rattle.host.specs.Record.{plantAt, columnsAt}
+use Rattle.host.specs.Record.{plantAt, columnsAt, ColumnsLaw}
 
 -- ---- copying
 
@@ -38,7 +38,7 @@ copied-whole into s h =
 
 -- ---- the three tanks
 
-pub plant-columns : (cs : List ℕ) → length cs ≡ 52 → columnsAt (plantAt cs) ≡ cs
+pub plant-columns : ColumnsLaw
 plant-columns cs h =
     let a : drop 39 cs ≡ drop 26 (drop 13 cs) = sym (drop-drop 26 13 cs) in
     let r : take 13 (drop 39 cs) ≡ drop 39 cs = take-all 13 (drop 39 cs) (omega (arith, length-drop 39 cs)) in

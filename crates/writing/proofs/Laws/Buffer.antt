@@ -4,7 +4,6 @@
 --   put-then                                two writers, one behind the other, are one
 --   put-same                                the bytes under another name
 --   put-left, put-fits, put-room            bytes that do not fit, and bytes that do
---   put-length                              the buffer keeps its length
 --   columns-then                            one column more
 --   answered, filled, answered-room         an answer at the start, the part that it fills, and its room
 use mathlib.Core.List.{List, [], _∷_, _++_, append-assoc}
@@ -80,9 +79,6 @@ module _ {d : List ℕ} {at : ℕ} {a : List ℕ} {m : ℕ} {e : List ℕ} where
 
   pub put-same : {b : List ℕ} → a ≡ b → Put d at a m e → Put d at b m e
   put-same q p = subst (λ (s : List ℕ). Put d at s m e) q p
-
-  pub put-length : Put d at a m e → m ≤ length d → length e ≡ length d
-  put-length p h = ap length (p .bytes) ∙ length-put d at a (omega (arith, p .next))
 
 -- ---- where the bytes fit, and where they do not
 
