@@ -48,7 +48,7 @@ fn line(buf: &mut [u8], s: &[u8]) {
     let a = lines::answer_line(p, s, buf);
     let o = a.outcome;
     let answer = o.answer;
-    show::number(b"refusal ", refusal_of(answer));
+    show::number(b"refusal ", plant::refusal_of(answer));
     tell(buf, a.length);
 }
 
@@ -80,22 +80,6 @@ fn plant_with(ss: u64) -> Plant {
         sludge,
         digester,
         reject,
-    }
-}
-
-fn refusal_of(a: Answer) -> u64 {
-    match a {
-        Answer::Received => 0,
-        Answer::Fed {
-            burnt,
-            oxygen,
-            nitrate,
-            warn,
-        } => 0,
-        Answer::Settled => 0,
-        Answer::Returned { stripped } => 0,
-        Answer::Released => 0,
-        Answer::Refused(n) => n,
     }
 }
 

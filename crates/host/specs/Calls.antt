@@ -10,7 +10,7 @@ use mathlib.Core.Path.{_≡_}
 use Prim.Native.Nat.{ℕ}
 use lib.ListN.{length}
 use Rattle.vectors.specs.declared.figures.Figures.{Figures}
-use Rattle.plant.specs.Answer.{Told, told}
+use Rattle.plant.specs.Answer.{told}
 use Rattle.plant.specs.declared.answer.Answer.{Answer}
 use Rattle.plant.specs.Calls.{step, feeding}
 use Rattle.plant.specs.Held.{heldOf}

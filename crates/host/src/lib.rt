@@ -11,7 +11,6 @@ ghost use Rattle.host.specs.Calls.{LineCalled, HeldCalled, FeedCalled};
 use record::plant_at;
 use record::put_plant;
 use told::four_of;
-use told::refusal_of;
 
 // The call on a line without its newline: how many bytes the answer has, none under refusal 12.
 #[no_mangle]
@@ -47,5 +46,5 @@ pub extern "C" fn jilghvani_feed(columns: &mut [u64; 52], k: u64, told: &mut [u6
     put_plant(columns, q);
     let answer = o.answer;
     *told = four_of(answer);
-    refusal_of(answer)
+    plant::refusal_of(answer)
 }

@@ -1,6 +1,5 @@
 // An answer as numbers.
 ghost use mathlib.Core.Path.{_≡_};
-ghost use Rattle.plant.specs.Answer.{told};
 ghost use Rattle.host.specs.Calls.{fourOf};
 use plant::Answer;
 
@@ -20,24 +19,5 @@ pub fn four_of(a: Answer) -> [u64; 4]
         Answer::Returned { stripped } => [0, 0, 0, 0],
         Answer::Released => [0, 0, 0, 0],
         Answer::Refused(n) => [0, 0, 0, 0],
-    }
-}
-
-// The refusal's number, or 0.
-pub fn refusal_of(a: Answer) -> u64
-    ensures { λ r. ⌜ r ≡ told a .number ⌝ }
-{
-    match a {
-        Answer::Received => 0,
-        Answer::Fed {
-            burnt,
-            oxygen,
-            nitrate,
-            warn,
-        } => 0,
-        Answer::Settled => 0,
-        Answer::Returned { stripped } => 0,
-        Answer::Released => 0,
-        Answer::Refused(n) => n,
     }
 }

@@ -1,11 +1,10 @@
 // Feed: an ASM1 vector becomes a digester vector, in the five stages of document 01.
-ghost use mathlib.Core.Bool.{true};
 ghost use mathlib.Core.Path.{_≡_};
 ghost use Prim.Native.Nat.{_+_, _-_, _*_, _/_, _≤_};
-ghost use Rattle.vectors.specs.Columns.{Below, asm1Ceilings, asm1Columns};
+ghost use Rattle.vectors.specs.Columns.{Below, asm1Ceilings};
 ghost use Rattle.vectors.specs.Figures.{Permitted};
 ghost use Rattle.vectors.specs.Units.{asm1Counts, digesterCounts};
-ghost use Rattle.interface.specs.Feed.{nitrateRule, ceil, warnOf, stage1, stage2, stage3, stage4, stage5, stages, fedVector, feedRefused, feedTaken, feedAsm1, feedOf};
+ghost use Rattle.interface.specs.Feed.{nitrateRule, ceil, warnOf, stage1, stages, fedVector, feedRefused, feedTaken, feedAsm1, feedOf};
 ghost use Rattle.interface.specs.Held.{Low, Demands, Leaves, AcidsHeld, InertsHeld, RemainsHeld, StagesHeld};
 use vectors::Asm1;
 use vectors::Digester;

@@ -1,4 +1,4 @@
--- The call on a line: document 01, "Lines in brackets" and "Refusals in order".
+-- The call on a line: document 01, "Lines in brackets" and "What the link sends away".
 --
 --   formOutcome    what a line that has been read gives on a record; no form is refused with 11
 --   lineOutcome    the outcome with a buffer of m bytes, refused with 12 where m is under 512

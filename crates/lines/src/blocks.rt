@@ -3,7 +3,7 @@ ghost use mathlib.Core.Path.{_≡_};
 ghost use Prim.Native.Nat.{_+_, _-_, _≤_, _<_};
 ghost use mathlib.Core.Bool.{_&&_};
 ghost use lib.Dec.{ltb};
-ghost use lib.ListN.{length, take};
+ghost use lib.ListN.{length};
 ghost use Rattle.vectors.specs.Figures.{house};
 ghost use Rattle.writing.specs.Buffer.{Put};
 ghost use Rattle.lines.specs.Session.{answerOf, afterLine};

@@ -8,7 +8,7 @@
 --   request, receiving, feeding, ..            the requests
 --
 -- f is the set of figures; the code has the house set.
-use mathlib.Core.Bool.{Bool, _&&_}
+use mathlib.Core.Bool.{_&&_}
 use mathlib.Core.List.{List, [], _∷_}
 use mathlib.Core.Path.{_≡_}
 use Prim.Native.Nat.{ℕ, _+_}

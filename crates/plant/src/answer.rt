@@ -1,6 +1,6 @@
 // A call, what it answers, and the outcome.
 ghost use mathlib.Core.Path.{_≡_};
-ghost use Rattle.plant.specs.Answer.{refused};
+ghost use Rattle.plant.specs.Answer.{refused, told};
 use crate::record::Plant;
 use vectors::Milligrams;
 use vectors::Ticks;
@@ -53,5 +53,24 @@ pub fn refusal(p: Plant, n: u64) -> Outcome
         answer: Answer::Refused(n),
         vector: [0; 13],
         plant: p,
+    }
+}
+
+// The refusal's number, or 0.
+pub fn refusal_of(a: Answer) -> u64
+    ensures { λ r. ⌜ r ≡ told a .number ⌝ }
+{
+    match a {
+        Answer::Received => 0,
+        Answer::Fed {
+            burnt,
+            oxygen,
+            nitrate,
+            warn,
+        } => 0,
+        Answer::Settled => 0,
+        Answer::Returned { stripped } => 0,
+        Answer::Released => 0,
+        Answer::Refused(n) => n,
     }
 }

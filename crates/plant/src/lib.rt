@@ -24,6 +24,7 @@ pub use answer::Call;
 pub use answer::Outcome;
 pub use answer::Request;
 pub use answer::refusal;
+pub use answer::refusal_of;
 pub use calls::answer_request;
 pub use feeding::feed;
 pub use holding::HeldTotals;

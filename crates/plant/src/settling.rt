@@ -5,7 +5,7 @@ ghost use Prim.Native.Nat.{_+_};
 ghost use lib.Dec.{eqb};
 ghost use Rattle.vectors.specs.Columns.{Below, digesterCeilings};
 ghost use Rattle.vectors.specs.Figures.{house};
-ghost use Rattle.vectors.specs.Totals.{digesterCod, digesterTkn, digesterOxygen, digesterNitrate};
+ghost use Rattle.vectors.specs.Totals.{digesterOxygen, digesterNitrate};
 ghost use Rattle.plant.specs.Answer.{first};
 ghost use Rattle.plant.specs.Calls.{step, settling, settledTests};
 use crate::answer::Answer;

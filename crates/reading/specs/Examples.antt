@@ -2,7 +2,7 @@
 --
 --   Row, examples              a line, and what it asks
 --   Holds, ExamplesHold        the line is read as that; every line is
-use mathlib.Core.List.{List, [], _∷_, map}
+use mathlib.Core.List.{List, [], _∷_}
 use mathlib.Core.Path.{_≡_}
 use Prim.Native.Nat.{ℕ}
 use Prim.Native.String.{String}

@@ -1,6 +1,6 @@
 // One form a line.
 ghost use mathlib.Core.Path.{_≡_};
-ghost use Prim.Native.Nat.{_+_, _≤_};
+ghost use Prim.Native.Nat.{_+_};
 ghost use lib.ListN.{length};
 ghost use Rattle.reading.specs.Text.{upTo, behind};
 ghost use Rattle.reading.specs.Number.{readNumber};

@@ -1,7 +1,5 @@
 // Decimal numbers.
 ghost use mathlib.Core.Path.{_≡_};
-ghost use Prim.Native.Nat.{_<_};
-ghost use lib.ListN.{length};
 ghost use Rattle.reading.specs.Number.{readAfter, readNumber};
 
 // What bytes stand for.
@@ -27,38 +25,6 @@ pub fn read_number(s: &[u8]) -> Number
 
 // Digits alone.
 fn digits(s: &[u8]) -> Number
-    ensures { λ r. ⌜ r ≡ readAfter 0 (now (s .entry)) ⌝ }
-{
-    if s.len() < 20 {
-        return short_digits(s);
-    }
-    long_digits(s)
-}
-
-// At most nineteen digits stand for less than 2^64.
-fn short_digits(s: &[u8]) -> Number
-    requires { ⌜ length (now s) < 20 ⌝ }
-    ensures { λ r. ⌜ r ≡ readAfter 0 (now (s .entry)) ⌝ }
-{
-    let mut n: u64 = 0;
-    let mut i = 0;
-    while i < s.len() {
-        let b = s[i];
-        if b < 48 {
-            return Number::NotANumber;
-        }
-        if 57 < b {
-            return Number::NotANumber;
-        }
-        let d = (b - 48) as u64;
-        n = n * 10 + d;
-        i += 1;
-    }
-    Number::Value(n)
-}
-
-// Any number of digits.
-fn long_digits(s: &[u8]) -> Number
     ensures { λ r. ⌜ r ≡ readAfter 0 (now (s .entry)) ⌝ }
 {
     let mut n: u64 = 0;

@@ -10,7 +10,7 @@
 use mathlib.Core.List.{List, [], _∷_}
 use Prim.Native.Nat.{ℕ, suc, _+_, _*_}
 use lib.ListN.{getD}
-use Rattle.vectors.specs.Columns.{Asm1, asm1, asm1Columns, Digester, digester, digesterColumns}
+use Rattle.vectors.specs.Columns.{asm1, asm1Columns, Digester, digester, digesterColumns}
 use Rattle.vectors.specs.declared.figures.Figures.{Figures}
 
 -- ---- ASM1

@@ -1,7 +1,7 @@
 // One tuple struct for each unit of document 01, so that no function adds COD to nitrogen, and the sums that the conversions make
 // with them. `nitrogen` is the one place where COD becomes nitrogen.
 ghost use mathlib.Core.Path.{_≡_};
-ghost use Prim.Native.Nat.{_+_, _-_, _*_, _/_, _≤_, min};
+ghost use Prim.Native.Nat.{_-_, _*_, _/_, _≤_, min};
 
 // Milligrams of COD or of oxygen.
 pub struct Milligrams(pub u64);

@@ -6,7 +6,7 @@
 --   fitting                   no bytes where the buffer is under 512
 --   AnswerLineLaw, HeldLineLaw   neither holds a newline
 use mathlib.Core.Bool.{true, cond}
-use mathlib.Core.List.{List, [], _∷_, _++_}
+use mathlib.Core.List.{List, [], _++_}
 use mathlib.Core.Path.{_≡_}
 use Prim.Native.Nat.{ℕ, zero, suc}
 use lib.Dec.{ltb, eqb}

@@ -3,7 +3,7 @@
 --   noDigits        no digit stands in a byte string, as a test
 --   numbersIn       the numbers in a text: each run of digits
 --   readAnswer      the answer that a text stands for
---   told            every number that an answer tells has at most twenty digits, as every number of the code has
+--   allShort        every number that an answer tells has at most twenty digits, as every number of the code has
 --   ReadBackLaw     reading what was written gives the answer back. proofs/Laws/ReadBack.antt proves it: answer-read
 --   ReadColumnsLaw  and the vector of a release: columns-read
 --   SameTextLaw     two answers that differ are written differently: answer-same
@@ -11,7 +11,7 @@ use mathlib.Core.Bool.{Bool, true, false, cond, not, _&&_}
 use mathlib.Core.List.{List, [], _∷_}
 use mathlib.Core.Path.{_≡_}
 use Prim.{Unit}
-use Prim.Native.Nat.{ℕ, zero, suc, _+_, _-_, _*_, _^_, _<_}
+use Prim.Native.Nat.{ℕ, _+_, _-_, _*_, _^_, _<_}
 use lib.Dec.{eqb}
 use lib.ListN.{length, getD}
 use Rattle.vectors.specs.Units.{milligrams, ticks}
@@ -48,20 +48,20 @@ readAnswer s = kindOf (getD s 1 0) (getD s 6 0) (getD s 4 0) (numbersIn s)
 abbrev pub short : ℕ → Type 0
 short n = n < 10 ^ 20
 
-abbrev pub told : Answer → Type 0
-told Received = Unit {0}
-told (Fed b o n w) = short (b .0) × short (o .0) × short (n .0) × short w
-told Settled = Unit {0}
-told (Returned s) = short (s .0)
-told Released = Unit {0}
-told (Refused n) = short n
+abbrev pub allShort : Answer → Type 0
+allShort Received = Unit {0}
+allShort (Fed b o n w) = short (b .0) × short (o .0) × short (n .0) × short w
+allShort Settled = Unit {0}
+allShort (Returned s) = short (s .0)
+allShort Released = Unit {0}
+allShort (Refused n) = short n
 
 abbrev pub ReadBackLaw : Type 0
-ReadBackLaw = (a : Answer) (v : List ℕ) → told a → readAnswer (answerText a v) ≡ a
+ReadBackLaw = (a : Answer) (v : List ℕ) → allShort a → readAnswer (answerText a v) ≡ a
 
 abbrev pub ReadColumnsLaw : Type 0
 ReadColumnsLaw = (v : List ℕ) → length v ≡ 13 → ((k : ℕ) → short (getD v k 0)) → numbersIn (answerText Released v) ≡ v
 
 -- two answers that differ are written differently
 abbrev pub SameTextLaw : Type 0
-SameTextLaw = (a b : Answer) (v w : List ℕ) → told a → told b → answerText a v ≡ answerText b w → a ≡ b
+SameTextLaw = (a b : Answer) (v w : List ℕ) → allShort a → allShort b → answerText a v ≡ answerText b w → a ≡ b

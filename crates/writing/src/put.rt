@@ -1,5 +1,4 @@
 // Writers into a lent buffer. Each puts its bytes at a place and answers the place behind them.
-ghost use mathlib.Core.Path.{_≡_};
 ghost use Prim.Native.Nat.{_+_, _*_, _≤_};
 ghost use lib.ListN.{length};
 ghost use Rattle.reading.specs.Number.{decimal};

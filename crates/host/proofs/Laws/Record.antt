@@ -5,16 +5,15 @@
 --   copied-whole    a copy that fills a vector is what was copied
 --   plant-columns   the columns of the record that 52 columns stand for are those columns
 --   put-three, copied-three   the three tanks, one behind the other
-use mathlib.Core.List.{List, [], _∷_, _++_, append-assoc, append-nil}
-use mathlib.Core.Path.{_≡_, refl, sym, ap, _∙_}
+use mathlib.Core.List.{List, [], _++_, append-assoc, append-nil}
+use mathlib.Core.Path.{_≡_, sym, ap, _∙_}
 use Prim.Native.Nat.{ℕ, _+_, _-_, _≤_, _<_}
 use native.Mathlib.Omega.{arith}
 use lib.ListN.{length, take, drop, getD, set, take-append-drop, length-append, length-drop, drop-of-length-le}
-use lib.Seq.{take-all, take-add, drop-drop, getD-take, getD-drop, length-take-le, take-at, drop-at}
+use lib.Seq.{take-all, drop-drop, getD-take, getD-drop, length-take-le, take-at}
 use Rattle.writing.specs.Buffer.{putAt}
 use Rattle.writing.proofs.Laws.Buffer.{put-more}
-use Rattle.plant.specs.declared.record.Plant.{Plant}
-use Rattle.host.specs.Record.{plantAt, columnsAt, ColumnsLaw}
+use Rattle.host.specs.Record.{ColumnsLaw}
 
 -- ---- copying
 

@@ -8,7 +8,7 @@
 --   feed-keeps                    FeedLaw
 use mathlib.Core.Bool.{Bool, true, false, cond}
 use mathlib.Core.List.{List}
-use mathlib.Core.Path.{_≡_, refl, sym, ap, subst, _∙_}
+use mathlib.Core.Path.{_≡_, refl, sym, subst}
 use Prim.Native.Nat.{ℕ, _+_, _-_, _*_, _/_, _≤_, min}
 use native.Mathlib.Omega.{arith}
 use lib.Dec.{ltb}
@@ -19,8 +19,8 @@ use Rattle.vectors.specs.declared.columns.Asm1 as inAsm1
 use Rattle.vectors.specs.Columns.{Asm1, asm1, asm1Columns, asm1Ceilings, Below}
 use Rattle.vectors.specs.Units.{asm1Counts}
 use Rattle.interface.specs.Held.{Low}
-use Rattle.interface.specs.Feed.{NitrateRule, nitrateRule, ceil, warnOf, Stage1, Stage2, Stage4, Stage5, stage1, stage2, stage3, stage4, stage5, stages, feedRefused, feedTaken, feedAsm1, feedOf}
-use Rattle.interface.specs.Laws.{FeedKeeps, FeedLaw}
+use Rattle.interface.specs.Feed.{NitrateRule, nitrateRule, ceil, warnOf, Stage1, Stage2, Stage4, stage1, stage2, stage3, stage4, stage5, stages, feedRefused, feedTaken, feedAsm1, feedOf}
+use Rattle.interface.specs.Laws.{FeedLaw}
 use Rattle.vectors.proofs.Laws.Units.{afford, share-le}
 
 -- ---- stage 1

@@ -1,5 +1,5 @@
 -- The hand-worked plants: each row of specs/Plants.antt holds by computation. Assumes nothing.
-use mathlib.Core.Path.{_≡_, refl}
+use mathlib.Core.Path.{refl}
 use Rattle.interface.specs.Feed.{stage1, stage2, stage3, stage4, stage5, feedAsm1}
 use Rattle.interface.specs.Return.{taken, returnShort, returnDigester}
 use Rattle.interface.specs.Plants.{PlantsHold}

@@ -18,7 +18,7 @@ use Rattle.vectors.specs.Columns.{Digester, digester, digesterColumns, digester
 use Rattle.vectors.specs.Units.{digesterCounts}
 use Rattle.interface.specs.Held.{LowDigester}
 use Rattle.interface.specs.Return.{Nitrogen, nitrogenOf, taken, returnShort, returnRefused, returnTaken, returnDigester, returnOf}
-use Rattle.interface.specs.Laws.{ReturnKeeps, ReturnLaw}
+use Rattle.interface.specs.Laws.{ReturnLaw}
 
 pub taken-nitrogen : (q : ℕ) (n : Nitrogen) → returnShort q n ≡ false → taken q n .xnd + taken q n .snd + taken q n .snh + q ≡ n.xnd + n.snd + n.snh
 unfolding taken returnShort

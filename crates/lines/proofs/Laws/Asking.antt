@@ -3,9 +3,9 @@
 --   outcome-short, outcome-full   what the outcome is in a buffer under 512 bytes, and in a longer one
 --   line-short, line-full         the promise of the call, in the same two cases
 --   held-short, held-full         the promise of the held line, in the same two cases
-use mathlib.Core.Bool.{Bool, true, false, cond}
-use mathlib.Core.List.{List, []}
-use mathlib.Core.Path.{_≡_, refl, sym, ap, subst, _∙_}
+use mathlib.Core.Bool.{cond}
+use mathlib.Core.List.{List}
+use mathlib.Core.Path.{_≡_, sym, ap, subst, _∙_}
 use Prim.Native.Nat.{ℕ, _≤_, _<_}
 use lib.ListN.{length}
 use borrow.Author.Tests.{lt-ltb, le-ltb}

@@ -9,8 +9,8 @@
 --   step-used, step-unfit, step-ready     a step: the block is used, the buffers have no room, or all fits
 --   last-none, last-unfit, last-some      behind the last byte: no line, no room, or a line that lacks its newline
 use mathlib.Core.Bool.{Bool, true, false, cond, _&&_, and-false}
-use mathlib.Core.List.{List, [], _∷_, _++_, append-assoc, append-nil}
-use mathlib.Core.Path.{_≡_, refl, sym, ap, subst, _∙_}
+use mathlib.Core.List.{List, [], _∷_, _++_, append-nil}
+use mathlib.Core.Path.{_≡_, sym, ap, subst, _∙_}
 use Prim.Native.Nat.{ℕ, _+_, _-_, _≤_, _<_}
 use native.Mathlib.Omega.{arith}
 use lib.Dec.{ltb, leb, eqb}
@@ -26,8 +26,7 @@ use Rattle.lines.specs.declared.blocks.Place.{Place}
 use Rattle.lines.specs.declared.blocks.Gathered.{Gathered}
 use Rattle.reading.specs.Text.{newline, upTo}
 use Rattle.writing.specs.Buffer.{putAt, Put, Answered}
-use Rattle.reading.specs.Form.{readLine}
-use Rattle.lines.specs.Asking.{formOutcome, outcomeText, lineText, LineAnswered}
+use Rattle.lines.specs.Asking.{outcomeText, lineText, LineAnswered}
 use Rattle.lines.specs.Session.{givenBy, answerOf, afterLine}
 use Rattle.lines.specs.Blocks.{Desk, desk, placeAt, fits, deskFits, ready, room, gathered, answeredDesk, ended, through, lineIn, stepOf, lastOf}
 use Rattle.reading.proofs.Laws.Text.{rest-of, upTo-take}

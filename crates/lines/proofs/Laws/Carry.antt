@@ -17,7 +17,7 @@ use Rattle.vectors.specs.declared.figures.Figures.{Figures}
 use Rattle.lines.specs.declared.blocks.Place.{Place}
 use Rattle.reading.specs.Text.{newline}
 use Rattle.lines.specs.Session.{State, kept, run, ended}
-use Rattle.lines.specs.Blocks.{Desk, desk, blockOf, stateOf, core, carried}
+use Rattle.lines.specs.Blocks.{Desk, blockOf, stateOf, core, carried}
 use Rattle.lines.proofs.Laws.Session.{run-append}
 use Rattle.lines.proofs.Laws.Run.{block-state, block-grows}
 

@@ -3,7 +3,7 @@
 --   file   for any input, the sums over its accepted lines balance against its held line, which is never a refusal
 use mathlib.Core.List.{List}
 use mathlib.Core.Path.{_≡_, ap, sym, _∙_}
-use Prim.Native.Nat.{ℕ, _+_}
+use Prim.Native.Nat.{_+_}
 use Rattle.vectors.specs.declared.figures.Figures.{Figures}
 use Rattle.vectors.specs.Figures.{Permitted}
 use Rattle.vectors.specs.Totals.{asm1Cod, asm1Tkn, asm1Oxygen, asm1Nitrate}
@@ -11,7 +11,7 @@ use Rattle.plant.specs.declared.record.Plant.{Plant}
 use Rattle.plant.specs.declared.answer.Request.{Request}
 use Rattle.plant.specs.declared.holding.HeldTotals.{HeldTotals}
 use Rattle.plant.specs.Record.{freshPlant}
-use Rattle.plant.specs.Balance.{after, received, released, burnt, gas, stripped, oxygenReduced, nitrateReduced, codIn, tknIn, oxygenIn, nitrateIn}
+use Rattle.plant.specs.Balance.{after, released, burnt, gas, stripped, oxygenReduced, nitrateReduced, codIn, tknIn, oxygenIn, nitrateIn}
 use Rattle.plant.specs.Held.{heldTotals, heldOf}
 use Rattle.plant.proofs.Laws.Balance.{balance}
 use Rattle.plant.proofs.Laws.Within.{held-after}

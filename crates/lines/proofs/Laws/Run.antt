@@ -14,24 +14,22 @@
 --   last-state      behind the last byte, the session is finished
 use mathlib.Core.Bool.{Bool, true, false, cond, _&&_}
 use mathlib.Core.List.{List, [], _∷_, _++_, append-assoc, append-nil}
-use mathlib.Core.Path.{_≡_, refl, sym, ap, subst, _∙_}
+use mathlib.Core.Path.{_≡_, refl, sym, ap, _∙_}
 use Prim.Native.Nat.{ℕ, zero, suc, _+_, _-_, _≤_, _<_}
 use native.Mathlib.Omega.{arith}
-use native.Mathlib.Numerals.{add-one}
-use lib.Dec.{ltb, leb, eqb}
+use lib.Dec.{ltb, eqb}
 use lib.ListN.{length, take, drop, length-append, length-take, length-drop}
 use lib.Seq.{take-all, take-add, drop-drop, take-at, take-append-add, length-take-le}
 use borrow.Author.Tests.{eqb-true, ltb-true, ltb-false}
 use Rattle.vectors.specs.declared.figures.Figures.{Figures}
 use Rattle.vectors.proofs.Laws.Columns.{both-true}
-use Rattle.plant.specs.declared.record.Plant.{Plant}
 use Rattle.lines.specs.declared.blocks.Place.{Place}
 use Rattle.reading.specs.Text.{newline, upTo}
 use Rattle.writing.specs.Buffer.{putAt}
 use Rattle.lines.specs.Session as session
 use Rattle.lines.specs.Session.{State, keep, kept, run, finish, finishHeld, answerOf, afterLine}
-use Rattle.lines.specs.Blocks.{Desk, desk, placeAt, fits, deskFits, ready, room, gathered, answeredDesk, ended, through, lineIn, stepOf, stepsOf, blockOf, lastOf, stateOf}
-use Rattle.reading.proofs.Laws.Text.{upTo-take, upTo-length}
+use Rattle.lines.specs.Blocks.{Desk, desk, fits, deskFits, ready, room, gathered, answeredDesk, ended, through, lineIn, stepOf, stepsOf, blockOf, lastOf, stateOf}
+use Rattle.reading.proofs.Laws.Text.{upTo-length}
 use Rattle.lines.proofs.Laws.Session.{run-append, take-take-append}
 use Rattle.lines.proofs.Laws.Blocks.{part-line, fits-true, step-used}
 

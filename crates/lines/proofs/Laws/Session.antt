@@ -7,7 +7,7 @@
 use mathlib.Core.Bool.{Bool, true, false, cond}
 use mathlib.Core.List.{List, [], _∷_, _++_, append-assoc, append-nil}
 use mathlib.Core.Path.{_≡_, refl, sym, ap, _∙_}
-use Prim.Native.Nat.{ℕ, zero, suc, _≤_, _<_}
+use Prim.Native.Nat.{ℕ, zero, suc}
 use native.Mathlib.Omega.{arith}
 use lib.Dec.{eqb, leb}
 use lib.ListN.{length, take}
@@ -23,9 +23,8 @@ use Rattle.reading.specs.declared.form.Form.the-variants.{Asked, NotAForm}
 use Rattle.reading.specs.declared.form.Line.{Line}
 use Rattle.reading.specs.Text.{newline}
 use Rattle.reading.specs.Form.{readLine}
-use Rattle.writing.specs.Answer.{answerText}
 use Rattle.lines.specs.Asking.{formOutcome, askedOutcome, outcomeText}
-use Rattle.lines.specs.Session.{State, keep, kept, ended, run, finish, start, cut, cutLines, givenBy, answerOf, afterLine, answers, afterLines, requestOf, requests, joined, runBlocks, Whole, WholeLaw}
+use Rattle.lines.specs.Session.{State, kept, ended, run, finish, start, cut, cutLines, givenBy, answerOf, afterLine, answers, afterLines, requestOf, requests, joined, runBlocks, Whole, WholeLaw}
 use Rattle.reading.proofs.Laws.Form.{line-long}
 
 -- ---- a line over 1,024 bytes

@@ -6,7 +6,7 @@
 --   over          so does every list of calls
 --   cod-quantity, ..   the four quantities
 --   balance       BalanceLaw
-use mathlib.Core.Bool.{Bool, true, false, cond, _&&_}
+use mathlib.Core.Bool.{true, cond}
 use mathlib.Core.List.{List, [], _∷_}
 use mathlib.Core.Path.{_≡_, refl}
 use Prim.Native.Nat.{ℕ, _+_, _≤_}
@@ -17,9 +17,8 @@ use Rattle.vectors.specs.declared.figures.Figures.{Figures}
 use Rattle.interface.specs.declared.feed.Fed as inFed
 use Rattle.interface.specs.declared.returning.Returned as inReturned
 use Rattle.vectors.specs.declared.units.Milligrams.{Milligrams}
-use Rattle.vectors.specs.Columns.{asm1Ceilings, digesterCeilings, within, added}
 use Rattle.vectors.specs.Figures.{Permitted}
-use Rattle.vectors.specs.Draw.{drawn, rest}
+use Rattle.vectors.specs.Draw.{drawn}
 use Rattle.vectors.specs.Totals.{asm1Cod, asm1Tkn, asm1Oxygen, asm1Nitrate, digesterCod, digesterTkn, digesterOxygen, digesterNitrate}
 use Rattle.interface.specs.Feed.{feedOf}
 use Rattle.interface.specs.Return.{returnOf}
@@ -35,10 +34,10 @@ use Rattle.plant.specs.declared.answer.Call.{Call}
 use Rattle.plant.specs.declared.answer.Call.the-variants as call
 use Rattle.plant.specs.declared.answer.Request.{Request}
 use Rattle.plant.specs.declared.answer.Outcome.{Outcome}
-use Rattle.plant.specs.Record.{freshPlant, recordWithin, thousandths}
+use Rattle.plant.specs.Record.{freshPlant, thousandths}
 use Rattle.plant.specs.Answer.{told, refused, unless, first, decide}
 use Rattle.plant.specs.Calls.{receive, feed, settle, giveBack, release, stepBy, step}
-use Rattle.plant.specs.Balance.{after, sumOver, accepted, handedIn, handedOut, gasOf, ifAccepted, receivedBy, releasedBy, gasBy, Balanced, BalanceLaw}
+use Rattle.plant.specs.Balance.{after, sumOver, accepted, handedIn, handedOut, gasOf, ifAccepted, receivedBy, releasedBy, gasBy, BalanceLaw}
 use Rattle.plant.proofs.Laws.Record.{thousandths-le}
 use Rattle.plant.proofs.Laws.Decision.{decide-case, first-passed, unless-passed}
 

@@ -1,5 +1,5 @@
 -- The lines of specs/Examples.antt are read as the table says, by computation. Assumes nothing.
-use mathlib.Core.Path.{_≡_, refl}
+use mathlib.Core.Path.{refl}
 use Rattle.reading.specs.Text.{sameBytes, upTo, behind, onFirst, pieces}
 use Rattle.reading.specs.Number.{allDigits, valueAfter, leads, readAfter, readNumber}
 use Rattle.reading.specs.Names.{columnFrom}

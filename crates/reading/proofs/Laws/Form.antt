@@ -6,7 +6,7 @@
 --   fields-unclosed, fields-go, fields-stop, fields-end   one turn of a loop over fields
 --   form-is, settle-split, ..                   a form, by the place of its first space
 --   line-..                                     a whole line
-use mathlib.Core.Bool.{Bool, true, false, cond, _&&_, and-false}
+use mathlib.Core.Bool.{Bool, true, false, cond, and-false}
 use mathlib.Core.List.{List, [], _∷_}
 use mathlib.Core.Path.{_≡_, refl, sym, ap, ap₂, _∙_}
 use Prim.Native.Nat.{ℕ, suc, _+_, _-_, _≤_, _<_}
@@ -18,7 +18,7 @@ use lib.ListN.{length, take, drop, getD, set, drop-of-length-le, length-drop}
 use lib.Seq.{drop-drop, take-nil}
 use borrow.Author.Tests.{eq-eqb, ne-eqb, le-leb, lt-leb, le-ltb, lt-ltb}
 use Rattle.reading.specs.declared.number.Number.{Number}
-use Rattle.reading.specs.declared.number.Number.the-variants.{Value, NotANumber}
+use Rattle.reading.specs.declared.number.Number.the-variants.{NotANumber}
 use Rattle.reading.specs.declared.names.Column.{Column}
 use Rattle.reading.specs.declared.names.Column.the-variants.{At, Unknown}
 use Rattle.reading.specs.declared.names.Vector.the-variants.{Digester}
@@ -31,7 +31,7 @@ use Rattle.reading.specs.Text.{upTo, behind, pieces}
 use Rattle.reading.specs.Number.{readNumber}
 use Rattle.reading.specs.Names.{namesOf, columnOf}
 use Rattle.reading.specs.Form.{fieldOf, readField, readPiece, noFields, addField, columnIn, numberIn, atEnd, whenOk, readPieces, readFields, noForm, settleLine, settleRest, wordOf, formOf, readForm, inBrackets, readLine}
-use Rattle.reading.proofs.Laws.Text.{rest-of, upTo-place, upTo-take, behind-drop, pieces-cut, pieces-last, pieces-some}
+use Rattle.reading.proofs.Laws.Text.{rest-of, upTo-place, behind-drop, pieces-cut, pieces-last, pieces-some}
 use Rattle.reading.proofs.Laws.Number.{number-empty}
 
 -- ---- one field, where k is the place of its space

@@ -1,16 +1,14 @@
 -- Laws of reading numbers. Assumes nothing.
 --
 --   low-at, high-at, large-at, digit-at   one turn of a loop over digits that stand at i
---   short-room, short-next, short-largest the same, where there are at most nineteen
 --   digits-end                            its end
 --   number-empty, number-zero, number-led how a number begins
-use mathlib.Core.Bool.{Bool, true, false, cond, not, _&&_, and-false}
+use mathlib.Core.Bool.{false, and-false}
 use mathlib.Core.List.{List, [], _∷_}
 use mathlib.Core.Logic.{_⊎_, inl, inr}
 use mathlib.Core.Path.{_≡_, refl, ap, _∙_}
-use Prim.Native.Nat.{ℕ, _+_, _-_, _*_, _^_, _≤_, _<_}
-use native.Mathlib.Nat.{le-refl, le-trans, lt-of-lt-of-le, pow-le-pow-right, pow-suc}
-use native.Mathlib.Numerals.{add-one}
+use Prim.Native.Nat.{ℕ, _+_, _-_, _*_, _≤_, _<_}
+use native.Mathlib.Nat.{le-refl, le-trans, lt-of-lt-of-le}
 use native.Mathlib.Omega.{arith}
 use lib.Dec.{leb, eqb}
 use lib.ListN.{length, drop, getD, drop-of-length-le}
@@ -54,19 +52,6 @@ module _ (s : List ℕ) (n i : ℕ) (h : i < length s) where
 
   pub digit-at : 48 ≤ getD s i 0 → getD s i 0 ≤ 57 → readAfter n (drop i s) ≡ readAfter (n * 10 + (getD s i 0 - 48)) (drop (i + 1) s)
   digit-at k l = ap (readAfter n) (head-at s 0 i h) ∙ digit n (getD s i 0) (drop (i + 1) s) k l
-
--- ---- at most nineteen digits
-
-pub short-room : (n i : ℕ) → n < 10 ^ i → i ≤ 18 → n < 1_000_000_000_000_000_000
-short-room n i h l = omega (arith, h, pow-le-pow-right {n = 10} (omega arith) l)
-
-pub short-next : (n i d : ℕ) → n < 10 ^ i → d ≤ 9 → n * 10 + d < 10 ^ (i + 1)
-short-next n i d h l = omega (arith, h, ap (λ (k : ℕ). 10 ^ k) (add-one i) ∙ pow-suc 10 i)
-
-pub short-largest : (n i : ℕ) → n < 10 ^ i → i ≤ 19 → n ≤ largest
-short-largest n i h l = omega (arith, h, pow-le-pow-right {n = 10} (omega arith) l)
-
--- ---- the end
 
 at-end : (n : ℕ) → n ≤ largest → readAfter n [] ≡ Value n
 unfolding readAfter allDigits valueAfter

@@ -6,7 +6,7 @@
 --   upTo-take, upTo-place, upTo-length, behind-drop   what a search has found, by its place
 --   rest-of                         a part of a slice that goes to its end
 --   pieces-cut, pieces-last, pieces-some  cutting behind each b
-use mathlib.Core.Bool.{Bool, true, false, cond, _&&_, and-false}
+use mathlib.Core.Bool.{Bool, true, false, cond, and-false}
 use mathlib.Core.List.{List, [], _∷_}
 use mathlib.Core.Path.{_≡_, refl, sym, ap, _∙_}
 use Prim.Native.Nat.{ℕ, suc, _+_, _-_, _≤_, _<_}

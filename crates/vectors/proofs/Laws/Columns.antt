@@ -14,7 +14,7 @@ use native.Mathlib.Numerals.{add-one}
 use native.Mathlib.Omega.{arith}
 use lib.Dec.{leb}
 use lib.ListN.{length, getD, take, drop, set, length-set}
-use lib.Seq.{paste-suc, take-all, drop-paste, getD-drop}
+use lib.Seq.{paste-suc, drop-paste, getD-drop}
 use borrow.Author.Tests.{leb-true, le-leb, lt-leb}
 use Rattle.vectors.specs.Columns.{within, Below, BelowFrom, added}
 

@@ -7,7 +7,7 @@
 --   drawn-fits         a column times k fits 64 bits
 --   within-drawn       what is drawn is within the ceilings
 --   drawn-below        the same as inequalities
-use mathlib.Core.Bool.{Bool, true, false, _&&_}
+use mathlib.Core.Bool.{true}
 use mathlib.Core.List.{List, [], _∷_, map}
 use mathlib.Core.Path.{_≡_, refl, sym}
 use Prim.Native.Nat.{ℕ, zero, suc, _+_, _*_, _≤_, _<_}
@@ -17,7 +17,7 @@ use lib.Dec.{leb}
 use lib.ListN.{length, getD, set}
 use borrow.Author.Tests.{leb-true, le-leb}
 use Rattle.vectors.specs.Columns.{within, Below}
-use Rattle.vectors.specs.Draw.{part, remainder, drawn, rest}
+use Rattle.vectors.specs.Draw.{part, drawn}
 use Rattle.vectors.specs.Laws.{ColumnSplits}
 use Rattle.vectors.proofs.Laws.Columns.{both-true, top, within-top, within-below, Filled, filled-at, filled-more}
 

@@ -17,7 +17,7 @@ use Rattle.vectors.specs.declared.figures.Figures.{Figures}
 use Rattle.vectors.specs.Columns.{asm1, asm1Ceilings, digester, digesterCeilings, Below, added}
 use Rattle.vectors.specs.Figures.{Permitted}
 use Rattle.vectors.specs.Draw.{drawn, rest}
-use Rattle.vectors.specs.Totals.{asm1Cod, asm1Tkn, asm1Oxygen, asm1Nitrate, digesterCod, digesterTkn, digesterOxygen, digesterNitrate, degraders, weigh, weighFrom, asm1CodWeights, asm1Fractions, digesterCodWeights, digesterFractions}
+use Rattle.vectors.specs.Totals.{asm1Cod, asm1Tkn, digesterCod, digesterTkn, degraders, weigh, weighFrom, asm1CodWeights, asm1Fractions, digesterCodWeights, digesterFractions}
 use Rattle.vectors.specs.Laws.{Linear, TotalLaws}
 use Rattle.vectors.proofs.Laws.Columns.{added-column}
 use Rattle.vectors.proofs.Laws.Draw.{column-splits}

@@ -7,7 +7,7 @@
 --   columns-then                            one column more
 --   answered, filled, answered-room         an answer at the start, the part that it fills, and its room
 use mathlib.Core.List.{List, [], _∷_, _++_, append-assoc}
-use mathlib.Core.Path.{_≡_, refl, sym, ap, subst, _∙_}
+use mathlib.Core.Path.{_≡_, sym, ap, subst, _∙_}
 use Prim.Native.Nat.{ℕ, _+_, _≤_, _<_}
 use native.Mathlib.Nat.{zero-add, add-zero, add-assoc}
 use native.Mathlib.Numerals.{add-one}
@@ -15,7 +15,7 @@ use native.Mathlib.Omega.{arith}
 use lib.ListN.{getD, take-append-drop, length, take, drop, set, length-append, length-drop}
 use lib.Seq.{take-suc, take-all, drop-drop, length-take-le, set-split, take-at, drop-at}
 use lib.Dec.{leb}
-use mathlib.Core.Bool.{Bool, cond}
+use mathlib.Core.Bool.{cond}
 use borrow.Author.Tests.{le-leb, lt-leb}
 use Rattle.writing.specs.Buffer.{putAt, Put, fitted, Answered}
 use Rattle.writing.specs.Answer.{columnText, columnsText}

@@ -8,12 +8,12 @@
 use mathlib.Core.Bool.{Bool, true, false, cond}
 use mathlib.Core.List.{List, [], _∷_, _++_}
 use mathlib.Core.Path.{_≡_, refl, sym, ap, subst, _∙_}
-use Prim.Native.Nat.{ℕ, zero, suc, _+_, _-_, _*_, _/_, _%_, _^_, _≤_, _<_, zero-le}
-use native.Mathlib.Nat.{pow-le-pow-right, le-trans, div-lt-iff-lt-mul, zero-lt-suc, pow-suc, mod-lt, mod-add-div}
+use Prim.Native.Nat.{ℕ, zero, suc, _+_, _-_, _*_, _/_, _%_, _^_, _≤_, _<_}
+use native.Mathlib.Nat.{pow-le-pow-right, div-lt-iff-lt-mul, zero-lt-suc, pow-suc, mod-lt, mod-add-div}
 use native.Mathlib.Omega.{arith}
 use lib.Dec.{leb}
 use lib.ListN.{length, length-append}
-use borrow.Author.Tests.{leb-true, leb-false, le-leb, lt-leb, lt-ltb}
+use borrow.Author.Tests.{leb-true, leb-false, le-leb, lt-ltb}
 use Rattle.io.specs.Digits.{digits, glyph, Fewest}
 use Rattle.vectors.proofs.Laws.Columns.{both-true}
 use Rattle.reading.specs.Number.{isDigit, allDigits, valueAfter, placesFrom, decimal}

@@ -7,7 +7,7 @@
 --   one-held      every held line
 use mathlib.Core.Bool.{Bool, true, false, cond, not, _&&_}
 use mathlib.Core.List.{List, [], _∷_, _++_}
-use mathlib.Core.Path.{_≡_, refl, sym, ap, _∙_}
+use mathlib.Core.Path.{_≡_, refl, ap}
 use Prim.Native.Nat.{ℕ, zero, suc, _+_, _/_, _%_}
 use native.Mathlib.Omega.{arith}
 use lib.Dec.{ltb, eqb}
@@ -17,7 +17,6 @@ use Rattle.io.specs.Digits.{digits, glyph}
 use Rattle.vectors.proofs.Laws.Columns.{both-true}
 use Rattle.plant.specs.declared.answer.Answer.{Answer}
 use Rattle.plant.specs.declared.answer.Answer.the-variants.{Received, Fed, Settled, Returned, Released, Refused}
-use Rattle.plant.specs.declared.holding.HeldTotals.{HeldTotals}
 use Rattle.reading.specs.declared.names.Vector.the-variants.{Sludge}
 use Rattle.reading.specs.Text.{ascii, newline, oneLine}
 use Rattle.reading.specs.Number.{decimal, placesFrom}

@@ -1,10 +1,10 @@
--- `host::told::refusal_of` meets its contract. Assumes nothing.
+-- `plant::answer::refusal_of` meets its contract. Assumes nothing.
 use mathlib.Core.Path.{sym, ap}
 use Rattle.plant.specs.Answer.{told}
 use Rattle.plant.specs.declared.answer.Answer.{Answer}
 use borrow.Author.Needs.{needs}
-use Rattle.host.proofs.told.refusal_of.Statement.{statement}
-use Rattle.host.proofs.told.refusal_of.Tie as tie
+use Rattle.plant.proofs.answer.refusal_of.Statement.{statement}
+use Rattle.plant.proofs.answer.refusal_of.Tie as tie
 
 enum-told : tie.Need-enum-told
 enum-told c = search needs

@@ -1,4 +1,4 @@
--- `reading::number::long_digits` meets its contract. Assumes nothing.
+-- `reading::number::digits` meets its contract. Assumes nothing.
 use mathlib.Core.Path.{_≡_, sym, _∙_}
 use Prim.Native.Nat.{_-_, _≤_}
 use lib.ListN.{length, drop}
@@ -6,8 +6,8 @@ use native.Mathlib.Omega.{arith}
 use Rattle.reading.specs.Number.{largest, readAfter}
 use Rattle.reading.proofs.Laws.Number.{low-at, high-at, large-at, digit-at, digits-end}
 use borrow.Author.Needs.{needs}
-use Rattle.reading.proofs.number.long_digits.Statement.{statement}
-use Rattle.reading.proofs.number.long_digits.Tie as tie
+use Rattle.reading.proofs.number.digits.Statement.{statement}
+use Rattle.reading.proofs.number.digits.Tie as tie
 
 abbrev Inv-loop : tie.InvT-loop
 Inv-loop s n₀ i₀ n i = (i ≤ length s) × (n ≤ largest) × (readAfter n (drop i s) ≡ readAfter 0 s)
@@ -60,8 +60,8 @@ loop-again c = let l = c .before .before .before .before .before .before .loop i
 returns-5 : tie.Need-returns-5 Inv-loop μ-loop
 returns-5 c = let l = c .before .loop in sym (digits-end (c .before .before .args .s .now) (l .n) (l .i) (omega arith) (omega arith)) ∙ l .inv .2
 
-pub long-digits-spec : {M : Type 1} → statement M
-long-digits-spec =
+pub digits-spec : {M : Type 1} → statement M
+digits-spec =
     tie.close
     (tie.spec
     Inv-loop
