@@ -2,8 +2,8 @@
 --
 --   putAt       the buffer with bytes s in the place of those from `at` on
 --   Put         a writer's promise: s stands from `at` on, r is the place behind it, and all other bytes are as they were
---   fitted      all of the bytes s where a buffer of m bytes has room for them from `at` on, else none
 --   Answered    the same at the start of the buffer, with r at most 512
+--   fitted      all of the bytes s where a buffer of m bytes has room for them from `at` on, else none
 use mathlib.Core.Bool.{cond}
 use mathlib.Core.List.{List, [], _++_}
 use mathlib.Core.Path.{_≡_}
