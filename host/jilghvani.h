@@ -9,6 +9,11 @@
  * pointer after it returns. Calls on different records may run at the same time
  * in any threads; calls on one record are the caller's to order.
  *
+ * What is lent to one call must not overlap: record, line, buffer and told
+ * numbers are areas of their own. No pointer may be null, except that of a line
+ * or a buffer whose length is 0. A record and told numbers are aligned as
+ * uint64_t is.
+ *
  * The columns of a record stand in this order (mg: COD and oxygen in mg; ticks:
  * 0.0001 mg N; mmol: millimoles):
  *
@@ -48,7 +53,9 @@ enum {
     JILGHVANI_REJECT_AT = 39,
     JILGHVANI_COLUMNS = 52,   /* columns of a record */
     JILGHVANI_BUFFER = 512,   /* the shortest buffer that is not refused */
-    JILGHVANI_LINE = 1024     /* the longest line that is not refused */
+    JILGHVANI_LINE = 1024     /* the longest line that is read; no form is longer
+                               * than 729 bytes, so that every line over 729 gets
+                               * refusal 11 */
 };
 
 /* What a call is sent away for; an answer gives the number as "(no N)". */
@@ -80,9 +87,7 @@ enum jilghvani_refusal {
  *           keep their values. 512 bytes hold every answer.
  *
  * Gives the number of answer bytes. Under refusal 12, buf_len below 512, it
- * gives 0 and leaves record and buffer untouched.
- *
- * The three areas must not overlap. */
+ * gives 0 and leaves record and buffer untouched. */
 size_t jilghvani_line(uint64_t record[JILGHVANI_COLUMNS],
                       const uint8_t *line, size_t line_len,
                       uint8_t *buf, size_t buf_len);

@@ -42,8 +42,8 @@ pub extern "C" fn jilghvani_feed(columns: &mut [u64; 52], k: u64, told: &mut [u6
 {
     let p = plant_at(columns);
     let o = plant::feed(p, k);
-    let q = o.plant;
-    put_plant(columns, q);
+    let next = o.plant;
+    put_plant(columns, next);
     let answer = o.answer;
     *told = four_of(answer);
     plant::refusal_of(answer)

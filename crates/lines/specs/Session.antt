@@ -3,12 +3,15 @@
 --   cut, cutLines                an input cut into lines
 --   givenBy, answerOf, afterLine what a line gives on a record: its outcome, its answer with a newline, the record
 --   answers, afterLines          the same for a list of lines, each on the record that the one before left
---   heldLine, printed            the held line with its newline, and all that is printed for an input
+--   heldLine                     the held line with its newline
+--   transcript, printed          all that is printed for a list of lines, and for an input, on a record
 --   requests                     the calls that a list of lines asks
---   State, run, finish           the same byte by byte, with at most 1,025 bytes of the line that is not ended
---   FileLaw                      for any input, its accepted lines' sums balance against its held line. proofs/Laws/File.antt proves it: file
+--   State, run                   the same byte by byte, with at most 1,025 bytes of the line that is not ended
+--   endText                      behind the last byte: the answer to a line that lacks its newline, then the held line
 --   joined, runBlocks            an input that falls into blocks, and its blocks one behind the other
---   WholeLaw                     by blocks, the answers are those of the input's lines. proofs/Laws/Session.antt proves it: whole
+--   PrintedLaw                   however an input falls into blocks, the answers on the way and then the end are what is printed for it.
+--                                proofs/Laws/Session.antt proves it: printed-whole
+--   FileLaw                      for any input, its accepted lines' sums balance against its held line. proofs/Laws/File.antt proves it: file
 --
 -- f is the set of figures; the program has the house set.
 use mathlib.Core.Bool.{cond}
@@ -72,9 +75,13 @@ afterLines f p (l ∷ ls) = afterLines f (afterLine f p l) ls
 abbrev pub heldLine : Figures → Plant → List ℕ
 heldLine f p = heldText (heldOf f p) ++ (newline ∷ [])
 
--- for an input, from a fresh record
-abbrev pub printed : Figures → List ℕ → List ℕ
-printed f s = answers f freshPlant (cutLines s) ++ heldLine f (afterLines f freshPlant (cutLines s))
+-- for the lines ls on the record p
+abbrev pub transcript : Figures → Plant → List (List ℕ) → List ℕ
+transcript f p ls = answers f p ls ++ heldLine f (afterLines f p ls)
+
+-- for an input s; sludgeline begins with a fresh record
+abbrev pub printed : Figures → Plant → List ℕ → List ℕ
+printed f p s = transcript f p (cutLines s)
 
 -- ---- the calls that lines ask
 
@@ -110,19 +117,29 @@ unfoldable pub run : Figures → State → List ℕ → State
 run f st [] = st
 run f st (b ∷ s) = run f (cond (eqb b newline) (ended f st) (kept st (b ∷ []))) s
 
-abbrev pub finishHeld : Figures → List ℕ → State → State
-finishHeld f [] st = st
-finishHeld f (b ∷ h) st = ended f st
+-- however the input falls into blocks
+unfoldable pub joined : List (List ℕ) → List ℕ
+joined [] = []
+joined (b ∷ bs) = b ++ joined bs
 
--- behind the last byte
-abbrev pub finish : Figures → State → State
-finish f st = finishHeld f (st .held) st
+unfoldable pub runBlocks : Figures → State → List (List ℕ) → State
+runBlocks f st [] = st
+runBlocks f st (b ∷ bs) = runBlocks f (run f st b) bs
 
--- ---- the claim
+-- ---- behind the last byte
 
-pub record Whole (f : Figures) (s : List ℕ) (st : State) : Type 0 where
-  pub printed : st .printed ≡ answers f freshPlant (cutLines s)
-  pub plant : st .plant ≡ afterLines f freshPlant (cutLines s)
+-- held is the line that lacks its newline; where it is empty there is none
+abbrev pub endText : Figures → Plant → List ℕ → List ℕ
+endText f p held = transcript f p (lastLine held)
+
+-- ---- the claims
+
+-- what a session has printed on the way, and what it prints at its end
+abbrev pub said : Figures → State → List ℕ
+said f st = st .printed ++ endText f (st .plant) (st .held)
+
+abbrev pub PrintedLaw : Type 0
+PrintedLaw = (f : Figures) (p : Plant) (bs : List (List ℕ)) → said f (runBlocks f (start p) bs) ≡ printed f p (joined bs)
 
 -- the sums over an input's accepted lines against its held line, which is never a refusal
 pub record FileBalanced (f : Figures) (rs : List Request) (held : HeldTotals) : Type 0 where
@@ -134,15 +151,3 @@ pub record FileBalanced (f : Figures) (rs : List Request) (held : HeldTotals) : 
 
 abbrev pub FileLaw : Type 0
 FileLaw = (f : Figures) → Permitted f → (s : List ℕ) → FileBalanced f (requests (cutLines s)) (heldOf f (afterLines f freshPlant (cutLines s)))
-
--- however the input falls into blocks
-unfoldable pub joined : List (List ℕ) → List ℕ
-joined [] = []
-joined (b ∷ bs) = b ++ joined bs
-
-unfoldable pub runBlocks : Figures → State → List (List ℕ) → State
-runBlocks f st [] = st
-runBlocks f st (b ∷ bs) = runBlocks f (run f st b) bs
-
-abbrev pub WholeLaw : Type 0
-WholeLaw = (f : Figures) (bs : List (List ℕ)) → Whole f (joined bs) (finish f (runBlocks f (start freshPlant) bs))

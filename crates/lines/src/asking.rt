@@ -1,7 +1,5 @@
 // The call on a line, and the held line.
 ghost use mathlib.Core.Path.{_≡_};
-ghost use denote.Ref.{ptr};
-ghost use lib.ListN.{take};
 ghost use Rattle.vectors.specs.Figures.{house};
 ghost use Rattle.lines.specs.Asking.{formOutcome, LineAnswered, HeldAnswered};
 use plant::Outcome;
@@ -37,16 +35,6 @@ pub fn answer_line(plant: Plant, line: &[u8], buf: &mut [u8]) -> LineOutcome
     let vector = outcome.vector;
     let length = write_answer(buf, answer, vector);
     LineOutcome { outcome, length }
-}
-
-// The first n bytes of a buffer, or all of it where it has fewer; with an answer's count, the part that the answer fills.
-pub fn filled_part<'a>(buf: &'a mut [u8], n: usize) -> &'a mut [u8]
-    ensures { λ r. ⌜ (now r ≡ take n (now (buf .entry))) × (ptr r ≡ ptr (buf .entry)) ⌝ }
-{
-    if buf.len() < n {
-        return buf;
-    }
-    &mut buf[..n]
 }
 
 fn form_outcome(plant: Plant, l: Line) -> Outcome

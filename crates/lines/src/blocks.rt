@@ -1,14 +1,15 @@
 // A session by blocks: each step takes it through one newline, or to the block's end.
 ghost use mathlib.Core.Path.{_≡_};
-ghost use Prim.Native.Nat.{_+_, _-_, _≤_, _<_};
+ghost use Prim.Native.Nat.{_+_, _≤_, _<_};
 ghost use mathlib.Core.Bool.{_&&_};
 ghost use lib.Dec.{ltb};
-ghost use lib.ListN.{length};
+ghost use lib.ListN.{length, take};
 ghost use Rattle.vectors.specs.Figures.{house};
 ghost use Rattle.writing.specs.Buffer.{Put};
-ghost use Rattle.lines.specs.Session.{answerOf, afterLine};
-ghost use Rattle.lines.specs.Blocks.{fits, room, desk, lineIn, through, stepOf, blockOf, lastOf};
+ghost use Rattle.lines.specs.Session.{lastLine, answerOf, afterLine, answers, afterLines, heldLine};
+ghost use Rattle.lines.specs.Blocks.{fits, room, desk, lineIn, through, stepOf, blockOf, endOf};
 use crate::asking::answer_line;
+use crate::asking::held_line;
 use plant::Plant;
 use reading::find_byte;
 use writing::put_fitting;
@@ -36,12 +37,12 @@ pub fn answer_block(block: &[u8], line: &mut [u8], out: &mut [u8], p: Place) -> 
 
 // Whether a block has bytes left and the buffers have room, by their lengths.
 fn is_ready(block: usize, line: usize, out: usize, p: Place) -> bool
-    ensures { λ r. ⌜ r ≡ (ltb (p .used) block && fits (p .held) (p .at) line out) ⌝ }
+    ensures { λ r. ⌜ r ≡ (ltb (p .used) block && fits 513 (p .held) (p .at) line out) ⌝ }
 {
     if block <= p.used {
         return false;
     }
-    has_room(p.held, p.at, line, out)
+    has_room(513, p.held, p.at, line, out)
 }
 
 // Goes through one newline, or to the block's end. A place or buffers that do not fit stay as they are.
@@ -52,7 +53,7 @@ pub fn step(block: &[u8], line: &mut [u8], out: &mut [u8], p: Place) -> Place
     if block.len() <= p.used {
         return p;
     }
-    if has_room(p.held, p.at, line.len(), out.len()) {
+    if has_room(513, p.held, p.at, line.len(), out.len()) {
         return step_through(block, line, out, p);
     }
     p
@@ -86,32 +87,9 @@ fn step_through(block: &[u8], line: &mut [u8], out: &mut [u8], p: Place) -> Plac
     }
 }
 
-// Behind the last byte of the input: a line that lacks its newline is answered.
-pub fn last_line(line: &mut [u8], out: &mut [u8], p: Place) -> Place
-    ensures { λ r. ⌜ desk r (now (line .exit)) (now (out .exit)) ≡ lastOf house (desk p (now (line .entry)) (now (out .entry))) ⌝ }
-    ensures { λ r. ⌜ (p .at ≤ length (now (out .entry)) → r .at ≤ length (now (out .entry))) ⌝ }
-{
-    if p.held == 0 {
-        return p;
-    }
-    if has_room(p.held, p.at, line.len(), out.len()) {
-        let held = p.held;
-        let plant = p.plant;
-        let g = gather_answer(plant, &line[..held], out, p.at);
-        let next = g.plant;
-        return Place {
-            used: p.used,
-            held: 0,
-            at: g.at,
-            plant: next,
-        };
-    }
-    p
-}
-
-// Whether the buffers, by their lengths, have room for one line and one answer.
-fn has_room(held: usize, at: usize, line: usize, out: usize) -> bool
-    ensures { λ r. ⌜ r ≡ fits held at line out ⌝ }
+// Whether the buffers, by their lengths, have room for a line and n bytes of answers.
+fn has_room(n: usize, held: usize, at: usize, line: usize, out: usize) -> bool
+    ensures { λ r. ⌜ r ≡ fits n held at line out ⌝ }
 {
     if 1025 < held {
         return false;
@@ -122,7 +100,7 @@ fn has_room(held: usize, at: usize, line: usize, out: usize) -> bool
     if out < at {
         return false;
     }
-    513 <= out - at
+    n <= out - at
 }
 
 // As much of s as there is room for joins the held bytes.
@@ -155,4 +133,49 @@ fn gather_answer(plant: Plant, line: &[u8], out: &mut [u8], at: usize) -> Gather
     let end = at + a.length;
     let k = put_fitting(out, end, b"\n");
     Gathered { at: k, plant: next }
+}
+
+// Behind the last byte of the input: a line that lacks its newline is answered, and the held line stands behind its answer. A place or
+// buffers that do not fit stay as they are.
+pub fn end_session(line: &[u8], out: &mut [u8], p: Place) -> Place
+    ensures { λ r. ⌜ desk r (now (line .entry)) (now (out .exit)) ≡ endOf house (desk p (now (line .entry)) (now (out .entry))) ⌝ }
+    ensures { λ r. ⌜ (p .at ≤ length (now (out .entry)) → r .at ≤ length (now (out .entry))) ⌝ }
+{
+    if has_room(1026, p.held, p.at, line.len(), out.len()) {
+        let g = gather_last(line, out, p);
+        let last = g.plant;
+        let at = gather_held(last, out, g.at);
+        return Place {
+            used: p.used,
+            held: 0,
+            at,
+            plant: last,
+        };
+    }
+    p
+}
+
+// The answer to a line that lacks its newline, where there is one, and its newline join the answers that are not written.
+fn gather_last(line: &[u8], out: &mut [u8], p: Place) -> Gathered
+    requires { ⌜ (p .held ≤ length (now line)) × (p .at + 513 ≤ length (now out)) ⌝ }
+    ensures { λ r. ⌜ (r .plant ≡ afterLines house (p .plant) (lastLine (take (p .held) (now (line .entry))))) × (Put (now (out .entry)) (p .at) (answers house (p .plant) (lastLine (take (p .held) (now (line .entry))))) (r .at) (now (out .exit))) ⌝ }
+    ensures { λ r. ⌜ r .at ≤ p .at + 513 ⌝ }
+{
+    let plant = p.plant;
+    let held = p.held;
+    if held == 0 {
+        return Gathered { at: p.at, plant };
+    }
+    gather_answer(plant, &line[..held], out, p.at)
+}
+
+// The held line and its newline join them.
+fn gather_held(plant: Plant, out: &mut [u8], at: usize) -> usize
+    requires { ⌜ at + 513 ≤ length (now out) ⌝ }
+    ensures { λ r. ⌜ Put (now (out .entry)) at (heldLine house plant) r (now (out .exit)) ⌝ }
+    ensures { λ r. ⌜ r ≤ at + 513 ⌝ }
+{
+    let h = held_line(plant, &mut out[at..]);
+    let end = at + h.length;
+    put_fitting(out, end, b"\n")
 }

@@ -1,7 +1,7 @@
 -- Lines and what they are read as. proofs/Laws/Examples.antt proves the table by computation.
 --
---   Row, examples              a line, and what it asks
---   Holds, ExamplesHold        the line is read as that; every line is
+--   Row, _asks_, examples      a line, and what it asks; the table
+--   AllHold, ExamplesHold      each line of a table is read as that; each of this one is
 use mathlib.Core.List.{List, [], _∷_}
 use mathlib.Core.Path.{_≡_}
 use Prim.Native.Nat.{ℕ}

@@ -1,12 +1,13 @@
 -- Answers as text: document 01, "Lines in brackets".
 --
 --   columnText, columnsText   (name N), and the first k columns of a vector, each behind a space
+--   fourText                  four numbers behind their labels
 --   answerText                an answer's bytes, with the vector of a release
 --   heldText                  the held line's bytes
 --   fitting                   no bytes where the buffer is under 512
 --   AnswerLineLaw, HeldLineLaw   neither holds a newline
 use mathlib.Core.Bool.{true, cond}
-use mathlib.Core.List.{List, [], _++_}
+use mathlib.Core.List.{List, [], _∷_, _++_}
 use mathlib.Core.Path.{_≡_}
 use Prim.Native.Nat.{ℕ, zero, suc}
 use lib.Dec.{ltb, eqb}
@@ -30,10 +31,14 @@ unfoldable pub columnsText : List (List ℕ) → ℕ → List ℕ → List ℕ
 columnsText names zero v = []
 columnsText names (suc k) v = columnsText names k v ++ columnText (getD names k []) (getD v k 0)
 
-unfoldable pub fedText : ℕ → ℕ → ℕ → ℕ → List ℕ
+-- four labels, each with its number of ns, and a bracket
+unfoldable pub fourText : List ℕ → List ℕ → List ℕ → List ℕ → List ℕ → List ℕ
+fourText a b c d ns =
+    labelled a (getD ns 0 0) ++ (labelled b (getD ns 1 0) ++ (labelled c (getD ns 2 0) ++ (labelled d (getD ns 3 0) ++ ascii ")")))
+
+abbrev pub fedText : ℕ → ℕ → ℕ → ℕ → List ℕ
 fedText burnt oxygen nitrate warn =
-    labelled (ascii "(ok feed burnt ") burnt
-    ++ (labelled (ascii " oxygen ") oxygen ++ (labelled (ascii " nitrate ") nitrate ++ (labelled (ascii " warn ") warn ++ ascii ")")))
+    fourText (ascii "(ok feed burnt ") (ascii " oxygen ") (ascii " nitrate ") (ascii " warn ") (burnt ∷ oxygen ∷ nitrate ∷ warn ∷ [])
 
 unfoldable pub returnedText : ℕ → List ℕ
 returnedText stripped = labelled (ascii "(ok return stripped ") stripped ++ ascii ")"
@@ -52,10 +57,9 @@ answerText (Returned s) v = returnedText (s .0)
 answerText Released v = releasedText v
 answerText (Refused n) v = refusedText n
 
-unfoldable pub totalsText : ℕ → ℕ → ℕ → ℕ → List ℕ
+abbrev pub totalsText : ℕ → ℕ → ℕ → ℕ → List ℕ
 totalsText cod tkn oxygen nitrate =
-    labelled (ascii "(held cod ") cod
-    ++ (labelled (ascii " tkn ") tkn ++ (labelled (ascii " oxygen ") oxygen ++ (labelled (ascii " nitrate ") nitrate ++ ascii ")")))
+    fourText (ascii "(held cod ") (ascii " tkn ") (ascii " oxygen ") (ascii " nitrate ") (cod ∷ tkn ∷ oxygen ∷ nitrate ∷ [])
 
 -- a record that is itself refused has that refusal
 abbrev pub heldText : HeldTotals → List ℕ

@@ -5,7 +5,7 @@
 --   Answered    the same at the start of the buffer, with r at most 512
 --   fitted      all of the bytes s where a buffer of m bytes has room for them from `at` on, else none
 use mathlib.Core.Bool.{cond}
-use mathlib.Core.List.{List, [], _++_}
+use mathlib.Core.List.{List, [], _∷_, _++_}
 use mathlib.Core.Path.{_≡_}
 use Prim.Native.Nat.{ℕ, _+_, _≤_}
 use lib.Dec.{leb}

@@ -5,7 +5,8 @@ ghost use denote.Ref.{ptr};
 ghost use lib.ListN.{length};
 ghost use Rattle.reading.specs.Text.{ascii};
 ghost use Rattle.writing.specs.Buffer.{Answered};
-ghost use Rattle.writing.specs.Answer.{fedText, returnedText, releasedText, refusedText, answerText, totalsText, heldText, fitting};
+ghost use Rattle.writing.specs.Answer.{fedText, fourText, returnedText, releasedText, refusedText, answerText, totalsText, heldText, fitting};
+use crate::put::filled_part;
 use crate::put::put_bytes;
 use crate::put::put_columns;
 use crate::put::put_labelled;
@@ -34,12 +35,13 @@ pub fn write_answer(buf: &mut [u8], a: Answer, v: [u64; 13]) -> usize
     }
 }
 
-// The same, and hands back the part of the buffer that the answer fills.
-pub fn filled_answer<'a>(buf: &'a mut [u8], a: Answer, v: [u64; 13]) -> &'a mut [u8]
+// The same, and hands back the part of the buffer that the answer fills, shared. The buffer goes into the result, so that this contract
+// says nothing of the bytes behind the part; `write_answer`, which it calls, settles them.
+pub fn filled_answer<'a>(buf: &'a mut [u8], a: Answer, v: [u64; 13]) -> &'a [u8]
     ensures { λ r. ⌜ (now r ≡ fitting (length (now (buf .entry))) (answerText a v)) × (ptr r ≡ ptr (buf .entry)) ⌝ }
 {
     let n = write_answer(buf, a, v);
-    &mut buf[..n]
+    filled_part(buf, n)
 }
 
 fn write_received(buf: &mut [u8]) -> usize
@@ -60,11 +62,27 @@ fn write_fed(buf: &mut [u8], burnt: u64, oxygen: u64, nitrate: u64, warn: u64) -
     requires { ⌜ 512 ≤ length (now buf) ⌝ }
     ensures { λ r. ⌜ Answered (now (buf .entry)) (fedText burnt oxygen nitrate warn) r (now (buf .exit)) ⌝ }
 {
-    let a = put_labelled(buf, 0, b"(ok feed burnt ", burnt);
-    let b = put_labelled(buf, a, b" oxygen ", oxygen);
-    let c = put_labelled(buf, b, b" nitrate ", nitrate);
-    let d = put_labelled(buf, c, b" warn ", warn);
-    put_bytes(buf, d, b")")
+    let told = [burnt, oxygen, nitrate, warn];
+    write_four(
+        buf,
+        b"(ok feed burnt ",
+        b" oxygen ",
+        b" nitrate ",
+        b" warn ",
+        told,
+    )
+}
+
+// Four numbers, each behind its label, and a bracket.
+fn write_four(buf: &mut [u8], a: &[u8], b: &[u8], c: &[u8], d: &[u8], ns: [u64; 4]) -> usize
+    requires { ⌜ (512 ≤ length (now buf)) × ((length (now a) ≤ 40) × ((length (now b) ≤ 40) × ((length (now c) ≤ 40) × (length (now d) ≤ 40)))) ⌝ }
+    ensures { λ r. ⌜ Answered (now (buf .entry)) (fourText (now (a .entry)) (now (b .entry)) (now (c .entry)) (now (d .entry)) ns) r (now (buf .exit)) ⌝ }
+{
+    let i = put_labelled(buf, 0, a, ns[0]);
+    let j = put_labelled(buf, i, b, ns[1]);
+    let k = put_labelled(buf, j, c, ns[2]);
+    let l = put_labelled(buf, k, d, ns[3]);
+    put_bytes(buf, l, b")")
 }
 
 fn write_returned(buf: &mut [u8], stripped: u64) -> usize
@@ -110,9 +128,13 @@ fn write_totals(buf: &mut [u8], cod: u64, tkn: u64, oxygen: u64, nitrate: u64) -
     requires { ⌜ 512 ≤ length (now buf) ⌝ }
     ensures { λ r. ⌜ Answered (now (buf .entry)) (totalsText cod tkn oxygen nitrate) r (now (buf .exit)) ⌝ }
 {
-    let a = put_labelled(buf, 0, b"(held cod ", cod);
-    let b = put_labelled(buf, a, b" tkn ", tkn);
-    let c = put_labelled(buf, b, b" oxygen ", oxygen);
-    let d = put_labelled(buf, c, b" nitrate ", nitrate);
-    put_bytes(buf, d, b")")
+    let totals = [cod, tkn, oxygen, nitrate];
+    write_four(
+        buf,
+        b"(held cod ",
+        b" tkn ",
+        b" oxygen ",
+        b" nitrate ",
+        totals,
+    )
 }

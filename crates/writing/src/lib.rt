@@ -8,4 +8,5 @@ mod put;
 pub use answer::filled_answer;
 pub use answer::write_answer;
 pub use answer::write_held;
+pub use put::filled_part;
 pub use put::put_fitting;

@@ -1,11 +1,24 @@
 // Writers into a lent buffer. Each puts its bytes at a place and answers the place behind them.
+ghost use mathlib.Core.Path.{_≡_};
 ghost use Prim.Native.Nat.{_+_, _*_, _≤_};
-ghost use lib.ListN.{length};
+ghost use denote.Ref.{ptr};
+ghost use lib.ListN.{length, take};
 ghost use Rattle.reading.specs.Number.{decimal};
 ghost use Rattle.reading.specs.Names.{entryAt, sludgeNames};
 ghost use Rattle.writing.specs.Buffer.{Put, fitted};
 ghost use Rattle.writing.specs.Answer.{labelled, columnText, columnsText};
 use reading::find_byte;
+
+// The first n bytes of a buffer, or all of it where it has fewer; with an answer's count, the part that the answer fills.
+// It is shared, so that no byte of the buffer can change on the way.
+pub fn filled_part(buf: &[u8], n: usize) -> &[u8]
+    ensures { λ r. ⌜ (now r ≡ take n (now (buf .entry))) × (ptr r ≡ ptr (buf .entry)) ⌝ }
+{
+    if buf.len() < n {
+        return buf;
+    }
+    &buf[..n]
+}
 
 // Bytes where they fit; where they do not, the buffer is left as it is.
 pub fn put_fitting(buf: &mut [u8], at: usize, s: &[u8]) -> usize

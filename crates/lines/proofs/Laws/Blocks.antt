@@ -1,36 +1,43 @@
 -- Laws of a session by blocks. Assumes nothing.
 --
---   part-put                              an answer written into the part of a buffer from a place on
---   answer-gathered                       an answer and its newline behind the others
+--   part-put                              bytes written into the part of a buffer from a place on
+--   text-gathered                         a text and its newline behind the others
+--   answer-gathered, held-gathered        an answer, and the held line, behind the others
 --   part-line                             what a block has of a line, as a part of the block
 --   room-fits                             held bytes stay within the line's buffer
---   fits-true, ready-of                   what the test of the buffers' room tells, and where a step can be taken
+--   leb-shift, fits-true, room-true       what the test of the buffers' room tells
+--   ready-of                              where a step can be taken
 --   through-newline, through-end          a step where all fits: a line is answered, or its bytes are held
 --   step-used, step-unfit, step-ready     a step: the block is used, the buffers have no room, or all fits
---   last-none, last-unfit, last-some      behind the last byte: no line, no room, or a line that lacks its newline
+--   last-none, last-some                  the lines that are left behind the last byte: none, or one
+--   end-unfit, end-ready                  behind the last byte: the buffers have no room, or all fits
 use mathlib.Core.Bool.{Bool, true, false, cond, _&&_, and-false}
 use mathlib.Core.List.{List, [], _∷_, _++_, append-nil}
-use mathlib.Core.Path.{_≡_, sym, ap, subst, _∙_}
+use mathlib.Core.Path.{_≡_, refl, sym, ap, subst, _∙_}
 use Prim.Native.Nat.{ℕ, _+_, _-_, _≤_, _<_}
 use native.Mathlib.Omega.{arith}
 use lib.Dec.{ltb, leb, eqb}
 use lib.ListN.{length, take, drop, length-take, length-drop, drop-of-length-le}
-use lib.Seq.{drop-drop}
-use borrow.Author.Tests.{lt-ltb, le-ltb, le-leb, eq-eqb, leb-true, eqb-true}
+use lib.Seq.{drop-drop, length-take-le}
+use borrow.Author.Tests.{lt-ltb, le-ltb, le-leb, lt-leb, eq-eqb, leb-true, leb-false, eqb-true}
 use Rattle.vectors.specs.declared.figures.Figures.{Figures}
 use Rattle.vectors.proofs.Laws.Columns.{both-true}
 use Rattle.plant.specs.declared.record.Plant.{Plant}
 use Rattle.plant.specs.declared.answer.Outcome.{Outcome}
+use Rattle.plant.specs.Held.{heldOf}
 use Rattle.lines.specs.declared.asking.LineOutcome.{LineOutcome}
+use Rattle.lines.specs.declared.asking.HeldOutcome.{HeldOutcome}
 use Rattle.lines.specs.declared.blocks.Place.{Place}
 use Rattle.lines.specs.declared.blocks.Gathered.{Gathered}
 use Rattle.reading.specs.Text.{newline, upTo}
 use Rattle.writing.specs.Buffer.{putAt, Put, Answered}
-use Rattle.lines.specs.Asking.{outcomeText, lineText, LineAnswered}
-use Rattle.lines.specs.Session.{givenBy, answerOf, afterLine}
-use Rattle.lines.specs.Blocks.{Desk, desk, placeAt, fits, deskFits, ready, room, gathered, answeredDesk, ended, through, lineIn, stepOf, lastOf}
+use Rattle.writing.specs.Answer.{heldText, fitting}
+use Rattle.lines.specs.Asking.{outcomeText, lineText, LineAnswered, HeldAnswered}
+use Rattle.lines.specs.Session.{lastLine, givenBy, answerOf, afterLine, answers, afterLines, heldLine, transcript}
+use Rattle.lines.specs.Blocks.{Desk, desk, placeAt, fits, roomFor, deskFits, ready, room, gathered, answeredDesk, ended, through, lineIn, stepOf}
+use Rattle.lines.specs.Blocks.{endedDesk, endOf}
 use Rattle.reading.proofs.Laws.Text.{rest-of, upTo-take}
-use Rattle.writing.proofs.Laws.Buffer.{put-then}
+use Rattle.writing.proofs.Laws.Buffer.{put-then, put-same, put-nothing}
 use Rattle.writing.proofs.Laws.Answer.{fitting-all}
 use Rattle.lines.proofs.Laws.Asking.{outcome-full}
 
@@ -49,21 +56,32 @@ part-put d at {s} {r} {e} a =
           ∙ ap (λ (x : List ℕ). take at d ++ (s ++ x)) (drop-drop (length s) at d);
     }
 
+-- the text s of r bytes, written into the part of d from `at` on, and its newline
+module _ (s : List ℕ) (d : List ℕ) (at : ℕ) {r k : ℕ} {e g : List ℕ} where
+  text-gathered : at + 513 ≤ length d → Answered (take (length d - at) (drop at d)) (fitting (length (take (length d - at) (drop at d))) s) r e
+      → Put (rejoined d at e) (at + r) (newline ∷ []) k g → Put d at (s ++ (newline ∷ [])) k g × (k ≤ at + 513)
+  text-gathered h a q =
+      let b = subst (λ (x : List ℕ). Answered x (fitting (length x) s) r e) (rest-of d at) a in
+      let m : 512 ≤ length (drop at d) = omega (arith, length-drop at d) in
+      let t = subst (λ (x : List ℕ). Answered (drop at d) x r e) (fitting-all (length (drop at d)) s m) b in
+      (put-then (part-put d at t) q (omega (arith, q .next, t .within)), omega (arith, q .next, t .within))
+
 module _ {f : Figures} {p : Plant} {l : List ℕ} (d : List ℕ) (at : ℕ) {r : LineOutcome} {e : List ℕ} where
-  given : at + 513 ≤ length d → LineAnswered f p l (drop at d) r e → r .outcome ≡ givenBy f p l
+  given : at + 513 ≤ length d → LineAnswered f p l (take (length d - at) (drop at d)) r e → r .outcome ≡ givenBy f p l
   unfolding givenBy
-  given h a = a .outcome ∙ outcome-full f (length (drop at d)) p l (omega (arith, length-drop at d))
+  given h a = a .outcome ∙ outcome-full f (length (take (length d - at) (drop at d))) p l (omega (arith, ap length (rest-of d at), length-drop at d))
 
-  text : at + 513 ≤ length d → LineAnswered f p l (drop at d) r e → Answered (drop at d) (outcomeText (givenBy f p l)) (r .length) e
+  pub answer-gathered : {k : ℕ} {g : List ℕ} → at + 513 ≤ length d → LineAnswered f p l (take (length d - at) (drop at d)) r e
+      → Put (rejoined d at e) (at + r .length) (newline ∷ []) k g → ((r .outcome .plant ≡ afterLine f p l) × Put d at (answerOf f p l) k g) × (k ≤ at + 513)
   unfolding givenBy lineText
-  text h a = subst (λ (s : List ℕ). Answered (drop at d) s (r .length) e) (fitting-all (length (drop at d)) _ (omega (arith, length-drop at d))) (a .text)
-
-  pub answer-gathered : {k : ℕ} {g : List ℕ} → at + 513 ≤ length d → LineAnswered f p l (take (length d - at) (drop at d)) r e → Put (rejoined d at e) (at + r .length) (newline ∷ []) k g
-      → ((r .outcome .plant ≡ afterLine f p l) × Put d at (answerOf f p l) k g) × (k ≤ at + 513)
   answer-gathered h a q =
-      let b = subst (λ (x : List ℕ). LineAnswered f p l x r e) (rest-of d at) a in
-      let t = text h b in
-      ((ap (λ (o : Outcome). o .plant) (given h b), put-then (part-put d at t) q (omega (arith, q .next, t .within))), omega (arith, q .next, t .within))
+      let t = text-gathered (outcomeText (givenBy f p l)) d at h (a .text) q in
+      ((ap (λ (o : Outcome). o .plant) (given h a), t .0), t .1)
+
+pub held-gathered : {f : Figures} {p : Plant} (d : List ℕ) (at : ℕ) {r : HeldOutcome} {e : List ℕ} {k : ℕ} {g : List ℕ}
+    → at + 513 ≤ length d → HeldAnswered f p (take (length d - at) (drop at d)) r e
+    → Put (rejoined d at e) (at + r .length) (newline ∷ []) k g → Put d at (heldLine f p) k g × (k ≤ at + 513)
+held-gathered {f} {p} d at h a q = text-gathered (heldText (heldOf f p)) d at h (a .text) q
 
 -- ---- a step where all fits
 
@@ -108,18 +126,27 @@ module _ (f : Figures) (block line out s : List ℕ) (p : Place) {e h : ℕ} {li
 
 -- ---- any step
 
-pub fits-true : (held at line out : ℕ) → fits held at line out ≡ true → (held ≤ 1025) × (line ≡ 1025) × (at + 513 ≤ out)
+pub fits-true : (n held at line out : ℕ) → fits n held at line out ≡ true → (held ≤ 1025) × (line ≡ 1025) × (at + n ≤ out)
 unfolding fits
-fits-true held at line out e =
-    let a = both-true (leb held 1025 && eqb line 1025) (leb 513 (out - at)) e in
+fits-true n held at line out e =
+    let a = both-true (leb held 1025 && eqb line 1025) (leb (at + n) out) e in
     let b = both-true (leb held 1025) (eqb line 1025) (a .0) in
-    let c = leb-true 513 (out - at) (a .1) in
-    (leb-true held 1025 (b .0), eqb-true line 1025 (b .1), omega arith)
+    (leb-true held 1025 (b .0), eqb-true line 1025 (b .1), leb-true (at + n) out (a .1))
+
+pub leb-shift : (n at out : ℕ) → at ≤ out → leb n (out - at) ≡ leb (at + n) out
+leb-shift n at out h = go (leb (at + n) out) refl
+  where
+    go : (b : Bool) → leb (at + n) out ≡ b → leb n (out - at) ≡ b
+    go true e = le-leb n (out - at) (omega (arith, leb-true (at + n) out e))
+    go false e = lt-leb n (out - at) (omega (arith, leb-false (at + n) out e))
+
+pub room-true : (n : ℕ) (k : Desk) → roomFor n k ≡ true → (k .place .held ≤ 1025) × (length (k .line) ≡ 1025) × (k .place .at + n ≤ length (k .out))
+room-true n k e = fits-true n (k .place .held) (k .place .at) (length (k .line)) (length (k .out)) e
 
 pub ready-of : (block : List ℕ) (k : Desk) → k .place .used < length block → k .place .held ≤ 1025 → length (k .line) ≡ 1025 → k .place .at + 513 ≤ length (k .out) → ready block k ≡ true
 unfolding fits
 ready-of block k u h l o =
-    simp (lt-ltb (k .place .used) (length block) u, le-leb (k .place .held) 1025 h, eq-eqb (length (k .line)) 1025 l, le-leb 513 (length (k .out) - k .place .at) (omega arith))
+    simp (lt-ltb (k .place .used) (length block) u, le-leb (k .place .held) 1025 h, eq-eqb (length (k .line)) 1025 l, le-leb (k .place .at + 513) (length (k .out)) o)
 
 and-unfit : (a b : Bool) → b ≡ false → (a && b) ≡ false
 and-unfit a b h = ap (λ (x : Bool). a && x) h ∙ and-false a
@@ -142,24 +169,47 @@ module _ (f : Figures) (block : List ℕ) (k : Desk) where
 
 -- ---- behind the last byte
 
+module _ (f : Figures) (p : Plant) (line out : List ℕ) (at : ℕ) where
+  abbrev Left : ℕ → Gathered → List ℕ → Type 0
+  Left held g out2 = (g .plant ≡ afterLines f p (lastLine (take held line))) × Put out at (answers f p (lastLine (take held line))) (g .at) out2
+
+  pub last-none : (held : ℕ) → held ≡ 0 → Left held (record { at = at; plant = p }) out
+  unfolding answers afterLines
+  last-none held h = rw h (refl, put-nothing out at)
+
+  pub last-some : (held : ℕ) (g : Gathered) {out2 : List ℕ} → (held ≡ 0 → ⊥) → held ≤ length line
+      → (g .plant ≡ afterLine f p (take held line)) × Put out at (answerOf f p (take held line)) (g .at) out2 → Left held g out2
+  unfolding answers afterLines
+  last-some held g {out2} n l t = go (take held line) (omega (arith, n, length-take-le held line l)) t
+    where
+      go : (h : List ℕ) → 0 < length h → (g .plant ≡ afterLine f p h) × Put out at (answerOf f p h) (g .at) out2
+          → (g .plant ≡ afterLines f p (lastLine h)) × Put out at (answers f p (lastLine h)) (g .at) out2
+      go [] z t = absurd (omega arith)
+      go (b ∷ h) z t = (t .0, put-same (sym (append-nil (answerOf f p (b ∷ h)))) (t .1))
+
 module _ (f : Figures) (p : Place) (line out : List ℕ) where
   abbrev k : Desk
   k = desk p line out
 
+  abbrev l : List (List ℕ)
+  l = lastLine (take (p .held) line)
+
   abbrev answered : Desk
-  answered = answeredDesk f p line out (take (p .held) line) (p .used)
+  answered = endedDesk k (transcript f (p .plant) l) (afterLines f (p .plant) l)
 
-  pub last-none : p .held ≡ 0 → k ≡ lastOf f k
-  unfolding lastOf
-  last-none h = sym (ap (λ b. cond (b && deskFits k) answered k) (le-ltb 0 (p .held) (omega (arith, h))))
+  pub end-unfit : roomFor 1026 k ≡ false → k ≡ endOf f k
+  unfolding endOf
+  end-unfit h = sym (ap (λ b. cond b answered k) h)
 
-  pub last-unfit : deskFits k ≡ false → k ≡ lastOf f k
-  unfolding lastOf
-  last-unfit h = sym (ap (λ b. cond b answered k) (and-unfit (ltb 0 (p .held)) (deskFits k) h))
-
-  pub last-some : (g : Gathered) {out2 : List ℕ} → (p .held ≡ 0 → ⊥) → deskFits k ≡ true → g .plant ≡ afterLine f (p .plant) (take (p .held) line) → Put out (p .at) (answerOf f (p .plant) (take (p .held) line)) (g .at) out2
-      → desk (placeAt (p .used) 0 (g .at) (g .plant)) line out2 ≡ lastOf f k
-  unfolding lastOf
-  last-some g n h q o =
-      answered-desk f p line out (take (p .held) line) g (p .used) q o
-      ∙ sym (ap (λ b. cond (b && deskFits k) answered k) (lt-ltb 0 (p .held) (omega (arith, n))) ∙ ap (λ b. cond b answered k) h)
+  pub end-ready : (g : Gathered) {at : ℕ} {out2 out3 : List ℕ} → roomFor 1026 k ≡ true
+      → (g .plant ≡ afterLines f (p .plant) l) × Put out (p .at) (answers f (p .plant) l) (g .at) out2 → Put out2 (g .at) (heldLine f (g .plant)) at out3 → at ≤ length out
+      → desk (placeAt (p .used) 0 at (g .plant)) line out3 ≡ endOf f k
+  unfolding endOf
+  end-ready g {at} {out2} {out3} h t q n =
+      let w = put-then (t .1) (subst (λ (x : Plant). Put out2 (g .at) (heldLine f x) at out3) (t .0) q) n in
+      ended-desk (t .0) w
+      ∙ sym (ap (λ b. cond b answered k) h)
+    where
+      ended-desk : {at : ℕ} {q : Plant} {out3 : List ℕ} → q ≡ afterLines f (p .plant) l → Put out (p .at) (transcript f (p .plant) l) at out3
+          → desk (placeAt (p .used) 0 at q) line out3 ≡ answered
+      ended-desk e w = λ i. record { place = record { used = p .used; held = 0; at = w .next i; plant = e i }; line = line; out = w .bytes i }

@@ -11,7 +11,8 @@
 --   block-grows     the block's place never goes back
 --   block-more      where a step can be taken, some bytes are used
 --   block-held      the held bytes stay within the line's buffer
---   last-state      behind the last byte, the session is finished
+--   end-said        behind the last byte, the bytes that are not written are those and the end
+--   desks           DeskLaw
 use mathlib.Core.Bool.{Bool, true, false, cond, _&&_}
 use mathlib.Core.List.{List, [], _∷_, _++_, append-assoc, append-nil}
 use mathlib.Core.Path.{_≡_, refl, sym, ap, _∙_}
@@ -27,11 +28,12 @@ use Rattle.lines.specs.declared.blocks.Place.{Place}
 use Rattle.reading.specs.Text.{newline, upTo}
 use Rattle.writing.specs.Buffer.{putAt}
 use Rattle.lines.specs.Session as session
-use Rattle.lines.specs.Session.{State, keep, kept, run, finish, finishHeld, answerOf, afterLine}
-use Rattle.lines.specs.Blocks.{Desk, desk, fits, deskFits, ready, room, gathered, answeredDesk, ended, through, lineIn, stepOf, stepsOf, blockOf, lastOf, stateOf}
+use Rattle.lines.specs.Session.{State, keep, kept, run, answerOf, afterLine, said}
+use Rattle.lines.specs.Blocks.{Desk, desk, roomFor, deskFits, ready, room, gathered, answeredDesk, ended, through, lineIn, stepOf, stepsOf, blockOf, endOf}
+use Rattle.lines.specs.Blocks.{stateOf, DeskLaw}
 use Rattle.reading.proofs.Laws.Text.{upTo-length}
 use Rattle.lines.proofs.Laws.Session.{run-append, take-take-append}
-use Rattle.lines.proofs.Laws.Blocks.{part-line, fits-true, step-used}
+use Rattle.lines.proofs.Laws.Blocks.{part-line, room-true, step-used}
 
 -- ---- bytes
 
@@ -145,7 +147,7 @@ module _ (f : Figures) (block : List ℕ) (k : Desk) where
     where
       go : (t : Bool) → ready block k ≡ t → stateOf (cond t goes k) ≡ run f (stateOf k) (take (cond t goes k .place .used - k .place .used) (drop (k .place .used) block))
       go true e =
-          let t = fits-true (k .place .held) (k .place .at) (length (k .line)) (length (k .out)) (both-true (ltb (k .place .used) (length block)) (deskFits k) e .1) in
+          let t = room-true 513 k (both-true (ltb (k .place .used) (length block)) (deskFits k) e .1) in
           through-state f block (k .place) (k .line) (k .out) (t .0) (t .1) (t .2) (ltb (k .place .used + length (lineIn block (k .place .used))) (length block)) refl
       go false e =
           let z : 0 ≡ k .place .used - k .place .used = omega arith in
@@ -155,7 +157,7 @@ module _ (f : Figures) (block : List ℕ) (k : Desk) where
   unfolding stepOf
   step-bounds e =
       let b = both-true (ltb (k .place .used) (length block)) (deskFits k) e in
-      let t = fits-true (k .place .held) (k .place .at) (length (k .line)) (length (k .out)) (b .1) in
+      let t = room-true 513 k (b .1) in
       rw e
       (through-more f block (k .place) (k .line) (k .out) (t .0) (t .1) (t .2) (ltb (k .place .used + length (lineIn block (k .place .used))) (length block)) refl (ltb-true (k .place .used) (length block) (b .0)))
 
@@ -259,26 +261,9 @@ module _ (f : Figures) (block : List ℕ) where
 
 -- ---- behind the last byte
 
-finish-none : (f : Figures) (st : State) → st .held ≡ [] → st ≡ finish f st
-finish-none f st e = ap (λ (h : List ℕ). finishHeld f h st) (sym e)
+pub end-said : (f : Figures) (k : Desk) → roomFor 1026 k ≡ true → take (endOf f k .place .at) (endOf f k .out) ≡ said f (stateOf k)
+unfolding endOf
+end-said f k e = rw e (taken-put (k .out) (k .place .at) _ (omega (arith, room-true 1026 k e)))
 
-finish-some : (f : Figures) (st : State) → 0 < length (st .held) → session.ended f st ≡ finish f st
-finish-some f st l = go (st .held) l
-  where
-    go : (h : List ℕ) → 0 < length h → session.ended f st ≡ finishHeld f h st
-    go [] l = absurd (omega arith)
-    go (b ∷ h) l = refl
-
-pub last-state : (f : Figures) (k : Desk) → deskFits k ≡ true → stateOf (lastOf f k) ≡ finish f (stateOf k)
-unfolding lastOf
-last-state f k e = rw e (go (ltb 0 (k .place .held)) refl)
-  where
-    go : (t : Bool) → ltb 0 (k .place .held) ≡ t → stateOf (cond (t && true) (answeredDesk f (k .place) (k .line) (k .out) (take (k .place .held) (k .line)) (k .place .used)) k) ≡ finish f (stateOf k)
-    go true b =
-        let t = fits-true (k .place .held) (k .place .at) (length (k .line)) (length (k .out)) e in
-        let n = ltb-true 0 (k .place .held) b in
-        answered-state f (k .place) (k .line) (k .out) (k .place .used) (omega (arith, t .2))
-        ∙ finish-some f (stateOf k) (omega (arith, t .0, t .1, length-take-le (k .place .held) (k .line) (omega (arith, t .0, t .1))))
-    go false b =
-        let z : k .place .held ≡ 0 = omega (arith, ltb-false 0 (k .place .held) b) in
-        finish-none f (stateOf k) (ap (λ (n : ℕ). take n (k .line)) z)
+pub desks : DeskLaw
+desks f k = record { block = λ block. block-state f block k; end = end-said f k }

@@ -2,10 +2,10 @@
 --
 --   given-cut        a line cut to 1,025 bytes is answered as the line is
 --   run-append       bytes run one part behind the other
---   whole            however an input falls into blocks, the answers and the record are those of its lines
+--   printed-whole    PrintedLaw: however an input falls into blocks, what is printed is that of its lines
 --   after-requests   the record after lines is that after the calls that they ask
 use mathlib.Core.Bool.{Bool, true, false, cond}
-use mathlib.Core.List.{List, [], _∷_, _++_, append-assoc, append-nil}
+use mathlib.Core.List.{List, [], _∷_, _++_, append-assoc}
 use mathlib.Core.Path.{_≡_, refl, sym, ap, _∙_}
 use Prim.Native.Nat.{ℕ, zero, suc}
 use native.Mathlib.Omega.{arith}
@@ -16,7 +16,6 @@ use borrow.Author.Tests.{leb-true, leb-false}
 use Rattle.vectors.specs.declared.figures.Figures.{Figures}
 use Rattle.plant.specs.declared.record.Plant.{Plant}
 use Rattle.plant.specs.declared.answer.Outcome.{Outcome}
-use Rattle.plant.specs.Record.{freshPlant}
 use Rattle.plant.specs.Balance.{after}
 use Rattle.reading.specs.declared.form.Form.{Form}
 use Rattle.reading.specs.declared.form.Form.the-variants.{Asked, NotAForm}
@@ -24,7 +23,8 @@ use Rattle.reading.specs.declared.form.Line.{Line}
 use Rattle.reading.specs.Text.{newline}
 use Rattle.reading.specs.Form.{readLine}
 use Rattle.lines.specs.Asking.{formOutcome, askedOutcome, outcomeText}
-use Rattle.lines.specs.Session.{State, kept, ended, run, finish, start, cut, cutLines, givenBy, answerOf, afterLine, answers, afterLines, requestOf, requests, joined, runBlocks, Whole, WholeLaw}
+use Rattle.lines.specs.Session.{cut, givenBy, answerOf, afterLine, answers, afterLines, heldLine, transcript, requestOf, requests}
+use Rattle.lines.specs.Session.{State, start, kept, ended, run, joined, runBlocks, said, PrintedLaw}
 use Rattle.reading.proofs.Laws.Form.{line-long}
 
 -- ---- a line over 1,024 bytes
@@ -62,42 +62,34 @@ abbrev behind : List ℕ → Outcome → State
 behind out o = from [] (o .plant) (out ++ (outcomeText o ++ (newline ∷ [])))
 
 module _ (f : Figures) where
-  -- all that is said for lines, behind what was said
-  abbrev told : List ℕ → Plant → List (List ℕ) → State
-  told out p ls = from [] (afterLines f p ls) (out ++ answers f p ls)
-
   -- one byte more: a newline or not
   one : (t : Bool) (input h : List ℕ) (p : Plant) (out : List ℕ) (b : ℕ)
-      → finish f (run f (from [] (afterLine f p h) (out ++ answerOf f p h)) input) ≡ told (out ++ answerOf f p h) (afterLine f p h) (cut [] input)
-      → finish f (run f (from (take 1025 (h ++ (b ∷ []))) p out) input) ≡ told out p (cut (h ++ (b ∷ [])) input)
-      → finish f (run f (cond t (ended f (from (take 1025 h) p out)) (kept (from (take 1025 h) p out) (b ∷ []))) input) ≡ told out p (cond t (h ∷ cut [] input) (cut (h ++ (b ∷ [])) input))
+      → said f (run f (from [] (afterLine f p h) (out ++ answerOf f p h)) input) ≡ (out ++ answerOf f p h) ++ transcript f (afterLine f p h) (cut [] input)
+      → said f (run f (from (take 1025 (h ++ (b ∷ []))) p out) input) ≡ out ++ transcript f p (cut (h ++ (b ∷ [])) input)
+      → said f (run f (cond t (ended f (from (take 1025 h) p out)) (kept (from (take 1025 h) p out) (b ∷ []))) input)
+      ≡ out ++ transcript f p (cond t (h ∷ cut [] input) (cut (h ++ (b ∷ [])) input))
   unfolding answers afterLines
   one true input h p out b e q =
-      ap (λ (o : Outcome). finish f (run f (behind out o) input)) (given-cut f p h)
+      ap (λ (o : Outcome). said f (run f (behind out o) input)) (given-cut f p h)
       ∙ e
-      ∙ ap (from [] (afterLines f (afterLine f p h) (cut [] input))) (append-assoc out (answerOf f p h) (answers f (afterLine f p h) (cut [] input)))
-  one false input h p out b e q = ap (λ (l : List ℕ). finish f (run f (from l p out) input)) (take-take-append 1025 h (b ∷ [])) ∙ q
+      ∙ simp append-assoc
+  one false input h p out b e q = ap (λ (l : List ℕ). said f (run f (from l p out) input)) (take-take-append 1025 h (b ∷ [])) ∙ q
 
-  holds : (input h : List ℕ) (p : Plant) (out : List ℕ) → finish f (run f (from (take 1025 h) p out) input) ≡ told out p (cut h input)
+  -- from a state that holds h, cut to what the program holds of it
+  from-held : (input h : List ℕ) (p : Plant) (out : List ℕ) → said f (run f (from (take 1025 h) p out) input) ≡ out ++ transcript f p (cut h input)
   unfolding run cut answers afterLines
-  holds [] [] p out = ap (from [] p) (sym (append-nil out))
-  holds [] (b ∷ h) p out =
-      ap (behind out) (given-cut f p (b ∷ h))
-      ∙ ap (λ (l : List ℕ). from [] (afterLine f p (b ∷ h)) (out ++ l)) (sym (append-nil (answerOf f p (b ∷ h))))
-  holds (b ∷ input) h p out = one (eqb b newline) input h p out b (holds input [] (afterLine f p h) (out ++ answerOf f p h)) (holds input (h ++ (b ∷ [])) p out)
-
-  from-fresh : (s : List ℕ) → finish f (run f (start freshPlant) s) ≡ told [] freshPlant (cutLines s)
-  from-fresh s = holds s [] freshPlant []
+  from-held [] [] p out = refl
+  from-held [] (b ∷ h) p out = ap (λ (o : Outcome). out ++ ((outcomeText o ++ (newline ∷ [])) ++ [] ++ heldLine f (o .plant))) (given-cut f p (b ∷ h))
+  from-held (b ∷ input) h p out =
+      one (eqb b newline) input h p out b (from-held input [] (afterLine f p h) (out ++ answerOf f p h)) (from-held input (h ++ (b ∷ [])) p out)
 
 blocks-joined : (f : Figures) (st : State) (bs : List (List ℕ)) → runBlocks f st bs ≡ run f st (joined bs)
 unfolding joined runBlocks run
 blocks-joined f st [] = refl
 blocks-joined f st (b ∷ bs) = blocks-joined f (run f st b) bs ∙ sym (run-append f st b (joined bs))
 
-pub whole : WholeLaw
-whole f bs =
-    let e = ap (finish f) (blocks-joined f (start freshPlant) bs) ∙ from-fresh f (joined bs) in
-    record { printed = ap (λ (st : State). st .printed) e; plant = ap (λ (st : State). st .plant) e }
+pub printed-whole : PrintedLaw
+printed-whole f p bs = ap (said f) (blocks-joined f (start p) bs) ∙ from-held f (joined bs) [] p []
 
 -- ---- the calls that lines ask
 

@@ -21,7 +21,7 @@ use Rattle.reading.specs.declared.names.Vector.the-variants.{Sludge}
 use Rattle.reading.specs.Text.{ascii, newline, oneLine}
 use Rattle.reading.specs.Number.{decimal, placesFrom}
 use Rattle.reading.specs.Names.{namesOf}
-use Rattle.writing.specs.Answer.{labelled, columnText, columnsText, fedText, returnedText, releasedText, refusedText, totalsText, AnswerLineLaw, HeldLineLaw}
+use Rattle.writing.specs.Answer.{labelled, columnText, columnsText, fourText, returnedText, releasedText, refusedText, totalsText, AnswerLineLaw, HeldLineLaw}
 
 abbrev One : List ℕ → Type 0
 One s = oneLine s ≡ true
@@ -105,7 +105,7 @@ one-released v =
     (one-append (columnsText (namesOf Sludge) 13 v) (ascii ")") (one-columns (namesOf Sludge) 13 v refl) refl)
 
 pub one-answer : AnswerLineLaw
-unfolding oneLine fedText
+unfolding oneLine fourText
 one-answer Received v = refl
 one-answer (Fed b o n w) v = one-four (ascii "(ok feed burnt ") (ascii " oxygen ") (ascii " nitrate ") (ascii " warn ") (b .0) (o .0) (n .0) w refl refl refl refl
 one-answer Settled v = refl
@@ -114,7 +114,7 @@ one-answer Released v = one-released v
 one-answer (Refused n) v = one-refused n
 
 pub one-held : HeldLineLaw
-unfolding oneLine totalsText
+unfolding oneLine fourText
 one-held h = go (eqb (h .refusal) 0)
   where
     go : (t : Bool) → One (cond t (totalsText (h .cod .0) (h .tkn .0) (h .oxygen .0) (h .nitrate .0)) (refusedText (h .refusal)))

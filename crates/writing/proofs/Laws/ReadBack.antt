@@ -20,7 +20,7 @@ use Rattle.plant.specs.declared.answer.Answer.the-variants.{Received, Fed, Sett
 use Rattle.reading.specs.Text.{ascii}
 use Rattle.reading.specs.Number.{isDigit, allDigits, valueAfter, decimal}
 use Rattle.reading.specs.Names.{sludgeNames}
-use Rattle.writing.specs.Answer.{labelled, columnText, columnsText, fedText, returnedText, releasedText, refusedText}
+use Rattle.writing.specs.Answer.{labelled, columnText, columnsText, fedText, fourText, returnedText, releasedText, refusedText}
 use Rattle.writing.specs.ReadBack.{noDigits, scan, numbersIn, readAnswer, short, ReadBackLaw, ReadColumnsLaw, SameTextLaw}
 use Rattle.writing.proofs.Laws.Decimal.{decimal-digits, decimal-value}
 
@@ -112,7 +112,7 @@ unfolding scan
 scan-end l n p h = scan-labelled l n 41 [] p h refl
 
 scan-fed : (b o n w : ℕ) → short b → short o → short n → short w → numbersIn (fedText b o n w) ≡ b ∷ o ∷ n ∷ w ∷ []
-unfolding fedText scan noDigits
+unfolding fourText scan noDigits
 scan-fed b o n w h i j k =
     scan-labelled (ascii "(ok feed burnt ") b 32 _ refl h refl
     ∙ ap (λ (x : List ℕ). b ∷ x) (scan-labelled (ascii " oxygen ") o 32 _ refl i refl)
@@ -120,7 +120,7 @@ scan-fed b o n w h i j k =
     ∙ ap (λ (x : List ℕ). b ∷ o ∷ n ∷ x) (scan-end (ascii " warn ") w refl k)
 
 pub answer-read : ReadBackLaw
-unfolding readAnswer fedText returnedText releasedText refusedText noDigits
+unfolding readAnswer fourText returnedText releasedText refusedText noDigits
 answer-read Received v h = refl
 answer-read (Fed b o n w) v h = ap (λ (ns : List ℕ). Fed (milligrams (getD ns 0 0)) (milligrams (getD ns 1 0)) (ticks (getD ns 2 0)) (getD ns 3 0)) (scan-fed (b .0) (o .0) (n .0) w (h .0) (h .1) (h .2) (h .3))
 answer-read Settled v h = refl

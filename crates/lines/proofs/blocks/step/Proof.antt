@@ -12,7 +12,7 @@ has-room-requires : tie.Need-has-room-requires
 has-room-requires c κs = search needs
 
 step-through-requires : tie.Need-step-through-requires
-step-through-requires c κs = let t = fits-true _ _ _ _ (sym (c .before .before .before .has-room .ensures) ∙ c .before .before .if2 .taken) in (c .before .before .before .before .if1 .left, t .0, t .1, t .2)
+step-through-requires c κs = let t = fits-true _ _ _ _ _ (sym (c .before .before .before .has-room .ensures) ∙ c .before .before .if2 .taken) in (c .before .before .before .before .if1 .left, t .0, t .1, t .2)
 
 same-length : tie.Need-same-length
 same-length c = search needs

@@ -1,4 +1,0 @@
-// The program's session on no input at all.
-fn main() {
-    session::talk();
-}

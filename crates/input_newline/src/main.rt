@@ -1,4 +1,0 @@
-// The program's session on one newline: an empty line is no form.
-fn main() {
-    session::talk();
-}

@@ -1,0 +1,70 @@
+// What the program sludgeline does: a conversation, or what its argument asks.
+use crate::channel::write_all;
+use crate::talking::talk;
+use libc::STDERR_FILENO;
+
+// With no argument a conversation. Of one word, --help and --version are known.
+pub fn serve() {
+    if os::arg_count() <= 1 {
+        talk();
+        return;
+    }
+    answer_word();
+}
+
+fn answer_word() {
+    let mut word = [0u8; 16];
+    let n = os::arg(1, &mut word);
+    if os::arg_count() == 2 {
+        if check::same(&word[..n], b"--help") {
+            help();
+            return;
+        }
+        if check::same(&word[..n], b"--version") {
+            write_all(b"sludgeline 0.5.0\n");
+            return;
+        }
+    }
+    io::write_all(
+        STDERR_FILENO,
+        b"sludgeline: unknown argument (--help tells what there is)\n",
+    );
+}
+
+// What the program is, the forms and the refusals, on one screen.
+fn help() {
+    help_forms();
+    help_columns();
+    help_refusals();
+    write_all(b"The last line is (held cod N tkn N oxygen N nitrate N): without it, the session\n");
+    write_all(b"failed, and standard error says why.\n");
+}
+
+fn help_forms() {
+    write_all(b"sludgeline: the link between ASM1 and ADM1 on one plant record, a call a line\n");
+    write_all(b"usage: sludgeline < CALLS > ANSWERS    or --help, or --version\n");
+    write_all(b"(receive F..)   an ASM1 vector into the sludge tank\n");
+    write_all(b"(feed N)        N thousandths of the sludge, converted, into the digester\n");
+    write_all(b"(settle N F..)  the digester as a solver proposes it, N mg of COD as gas\n");
+    write_all(b"(return N)      N thousandths of the digester, converted, into the reject tank\n");
+    write_all(b"(release N)     N thousandths of the reject tank handed out\n");
+}
+
+fn help_columns() {
+    write_all(b"F is (name N), each at most once; a missing column is zero. COD and oxygen in\n");
+    write_all(b"mg; sno snh snd xnd sin cn in ticks of 0.0001 mg N; salk sic in mmol.\n");
+    write_all(b"receive: si ss xi xs xbh xba xp so sno snh snd xnd salk\n");
+    write_all(b"settle: si ssu saa sfa sva sbu spro sac sh2 sch4 xi xc xch xpr xli xsu xaa xfa\n");
+    write_all(b"  xc4 xpro xac xh2 sin sic co cn\n");
+}
+
+fn help_refusals() {
+    write_all(b"Each line is answered (ok ..), or (no N) and nothing is changed, where\n");
+    write_all(b" 1 a column of the record is above its ceiling\n");
+    write_all(b" 2 k is not 1 to 1000            3 a column handed over is above its ceiling\n");
+    write_all(b" 4, 5 a feed, a return is short of nitrogen for its inerts\n");
+    write_all(b" 6 more COD would be burnt than there is\n");
+    write_all(b" 7, 8, 9 the proposal's COD, TKN, co or cn is not the digester's\n");
+    write_all(b"10 a tank's column would pass its ceiling: 10^12 mg or mmol, 10^16 ticks\n");
+    write_all(b"11 the line is no form           12 the answer's buffer is short\n");
+}

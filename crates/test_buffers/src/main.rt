@@ -1,0 +1,138 @@
+// Tests of lent buffers: in buffers of several lengths, with a pattern in them, what is answered, what part is handed back, and whether
+// the bytes behind the answer kept their values.
+use plant::Answer;
+use plant::Plant;
+
+fn main() {
+    let mut space = [0u8; 1100];
+    first(&mut space, 0);
+    first(&mut space, 1);
+    first(&mut space, 511);
+    first(&mut space, 512);
+    first(&mut space, 513);
+    first(&mut space, 1025);
+    first(&mut space, 1100);
+}
+
+// The first n bytes of a space are lent.
+fn first(space: &mut [u8], n: usize) {
+    if n <= space.len() {
+        all(&mut space[..n]);
+    }
+}
+
+// Lines of each kind, held lines, and the longest answer.
+fn all(buf: &mut [u8]) {
+    lines_of_each_kind(buf);
+    held(buf, 0);
+    held(buf, 1000000000000);
+    held(buf, 1000000000001);
+    longest(buf);
+    handed_back(buf, 7);
+    handed_back(buf, 18446744073709551615);
+}
+
+fn lines_of_each_kind(buf: &mut [u8]) {
+    line(buf, b"(receive (ss 10))");
+    line(buf, b"(feed 1)");
+    line(buf, b"(feed 0)");
+    line(buf, b"(feed 00)");
+    line(buf, b"");
+    line(buf, b"(settle 0)");
+    line(buf, b"(return 1000)");
+    line(buf, b"(release 1000)");
+}
+
+// The answer to a line on a fresh record.
+fn line(buf: &mut [u8], s: &[u8]) {
+    fill(buf);
+    let p = plant::fresh();
+    let a = lines::answer_line(p, s, buf);
+    let o = a.outcome;
+    let answer = o.answer;
+    test_show::number(b"refusal ", plant::refusal_of(answer));
+    tell(buf, a.length);
+}
+
+// The held line of a record with ss in its reject tank.
+fn held(buf: &mut [u8], ss: u64) {
+    fill(buf);
+    let p = plant_with(ss);
+    let h = lines::held_line(p, buf);
+    test_show::number(b"refusal ", h.refusal);
+    tell(buf, h.length);
+}
+
+// The longest answer that there is: a release with twenty digits in each column.
+fn longest(buf: &mut [u8]) {
+    fill(buf);
+    let v = [18446744073709551615u64; 13];
+    let k = writing::write_answer(buf, Answer::Released, v);
+    test_show::text(b"longest");
+    tell(buf, k);
+}
+
+// The part that the answer writer itself hands back, and a look behind it afterwards: no contract speaks of the bytes there.
+fn handed_back(buf: &mut [u8], n: u64) {
+    fill(buf);
+    let part = writing::filled_answer(buf, Answer::Refused(n), [0; 13]);
+    test_show::text(b"handed back [");
+    test_show::text(part);
+    let k = part.len();
+    test_show::text(b"]");
+    tell_behind(buf, k);
+}
+
+fn plant_with(ss: u64) -> Plant {
+    let p = plant::fresh();
+    let sludge = p.sludge;
+    let digester = p.digester;
+    let mut reject = p.reject;
+    reject[1] = ss;
+    Plant {
+        sludge,
+        digester,
+        reject,
+    }
+}
+
+// The pattern: a byte that tells its place.
+fn fill(buf: &mut [u8]) {
+    let mut i = 0;
+    while i < buf.len() {
+        buf[i] = (i % 251) as u8;
+        i += 1;
+    }
+}
+
+// Whether the bytes from a place on have the pattern still.
+fn kept(buf: &[u8], from: usize) -> bool {
+    let mut i = from;
+    while i < buf.len() {
+        if buf[i] != (i % 251) as u8 {
+            return false;
+        }
+        i += 1;
+    }
+    true
+}
+
+// The buffer's length, the part that an answer of n bytes fills, and what is behind it.
+fn tell(buf: &[u8], n: usize) {
+    test_show::number(b" in ", buf.len() as u64);
+    let p = writing::filled_part(buf, n);
+    test_show::number(b" bytes ", p.len() as u64);
+    test_show::text(b" [");
+    test_show::text(p);
+    test_show::text(b"]");
+    tell_behind(buf, n);
+}
+
+// Whether the bytes from a place on have the pattern still.
+fn tell_behind(buf: &[u8], n: usize) {
+    if kept(buf, n) {
+        test_show::text(b" kept\n");
+    } else {
+        test_show::text(b" CHANGED\n");
+    }
+}

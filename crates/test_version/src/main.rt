@@ -1,0 +1,4 @@
+// The program on --version.
+fn main() {
+    session::serve();
+}
