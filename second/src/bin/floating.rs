@@ -286,7 +286,7 @@ fn add_counts(to: &mut [u128; 4], more: [u128; 4]) {
 /// The numbers of an answer that begins with these words; none for another answer.
 fn numbers<const W: usize>(answer: &[u8], words: &str) -> Option<[u64; W]> {
     let rest = std::str::from_utf8(answer).ok()?.strip_prefix(words)?;
-    let items = rest.split(|letter: char| !letter.is_ascii_digit()).filter(|item| *item != "");
+    let items = rest.split(|letter: char| !letter.is_ascii_digit()).filter(|item| !item.is_empty());
     items.map(|item| item.parse().ok()).collect::<Option<Vec<u64>>>()?.try_into().ok()
 }
 
