@@ -43,9 +43,7 @@ fn run_with(program: &Program, words: Vec<OsString>) -> Result<Came, Trouble> {
 
 /// Asks that these words get a message, and nothing on standard output.
 fn refuses(program: &Program, words: Vec<OsString>) -> Verdict {
-    let (came, ended) = run_with(program, words)?;
-    is_nothing(&came)?;
-    ended_with_message(&ended)
+    gives_message_only(&run_with(program, words)?)
 }
 
 /// What these words are answered with, as text; a message is not.

@@ -51,8 +51,8 @@ fn start_not_blocking(program: &Program) -> Result<Watched, Trouble> {
 /// Asks that everything is answered.
 fn answers_all(mut running: Watched, input: &[u8]) -> Verdict {
     let right = right_output(input);
-    is_whole(&right, &collected(running.take_output(), &right))?;
-    ended_well(&running.end())
+    let came = collected(running.take_output(), &right);
+    gives_all(&right, &(came, running.end()))
 }
 
 /// A slow writer before a pipe that does not block: everything is answered.
@@ -91,25 +91,18 @@ fn slow_writer_to_a_socket(program: &Program) -> Verdict {
     answers_all(running, &input)
 }
 
-/// Asks for a message and nothing on standard output.
-fn refuses_input(program: &Program, command: Command) -> Verdict {
-    let (came, ended) = program.run(command, b"")?;
-    is_nothing(&came)?;
-    ended_with_message(&ended)
-}
-
 /// A directory, which cannot be read.
 fn directory_as_input(program: &Program) -> Verdict {
     let mut command = program.command();
     command.stdin(File::open(&program.folder)?);
-    refuses_input(program, command)
+    gives_message_only(&program.run(command, b"")?)
 }
 
 /// No input at all, which is not the same as an empty one.
 fn closed_input(program: &Program) -> Verdict {
     let mut command = program.command();
     system::without_file(&mut command, 0);
-    refuses_input(program, command)
+    gives_message_only(&program.run(command, b"")?)
 }
 
 /// Interrupts the program in its reads while the input comes: everything is answered. What
@@ -153,6 +146,6 @@ fn input_that_breaks_off(program: &Program) -> Verdict {
     command.stdin(OwnedFd::from(theirs));
     let right = right_answers(&input);
     let (came, ended) = program.run(command, &right)?;
-    is_whole(&right, &came)?;
+    ask(came == right, || difference(&right, &came))?;
     ended_with_message(&ended)
 }

@@ -43,6 +43,9 @@ pub enum Trouble {
 /// How a trial went.
 pub type Verdict = Result<(), Trouble>;
 
+/// What came of one run: standard output, and how it ended.
+type Came = (Vec<u8>, Ended);
+
 /// A trial: its name, and what it does with the program.
 pub type Trial = (&'static str, fn(&Program) -> Verdict);
 
@@ -106,35 +109,18 @@ fn difference(right: &[u8], came: &[u8]) -> String {
     format!("{counts}; in line {number} {found} should be {wanted}{held}")
 }
 
-/// Asks that all of the right output came.
-fn is_whole(right: &[u8], came: &[u8]) -> Verdict {
-    ask(came == right, || difference(right, came))
-}
-
-/// Asks that a beginning of the right output came, and not its held line.
-fn is_beginning(right: &[u8], came: &[u8]) -> Verdict {
-    ask(came != right, || "all of the output came, with its held line".into())?;
-    ask(right.starts_with(came), || difference(right, came))
-}
-
-/// Asks that nothing came on standard output.
-fn is_nothing(came: &[u8]) -> Verdict {
-    ask(came.is_empty(), || format!("on standard output: {}", shown(came)))
+/// Asks that the program was not killed.
+fn ended_in_time(ended: &Ended) -> Verdict {
+    ask(!ended.killed, || "it did not end, and was killed at the deadline".into())
 }
 
 /// Asks that the program ended by itself.
 fn ended_itself(ended: &Ended) -> Verdict {
-    ask(!ended.killed, || "it did not end, and was killed at the deadline".into())?;
+    ended_in_time(ended)?;
     match ended.signal() {
         Some(signal) => failed(format!("signal {signal} ended it")),
         None => Ok(()),
     }
-}
-
-/// Asks that the program ended by itself and without a message.
-fn ended_well(ended: &Ended) -> Verdict {
-    ended_itself(ended)?;
-    ask(ended.messages.is_empty(), || format!("on standard error: {}", shown(&ended.messages)))
 }
 
 /// Asks that the program ended by itself and with a message.
@@ -143,6 +129,43 @@ fn ended_with_message(ended: &Ended) -> Verdict {
     ask(!ended.messages.is_empty(), || "no message on standard error".into())?;
     let named = ended.messages.strip_prefix(NAME).is_some_and(|words| words.len() > 1);
     ask(named, || format!("on standard error: {}", shown(&ended.messages)))
+}
+
+/// Asks that the program ended by itself and without a message.
+fn ended_well(ended: &Ended) -> Verdict {
+    ended_itself(ended)?;
+    ask(ended.messages.is_empty(), || format!("on standard error: {}", shown(&ended.messages)))
+}
+
+/// Asks for all of the right output and no message.
+fn gives_all(right: &[u8], (came, ended): &Came) -> Verdict {
+    ended_in_time(ended)?;
+    let told = match ended.messages.is_empty() {
+        true => String::new(),
+        false => format!("; on standard error: {}", shown(&ended.messages)),
+    };
+    ask(came == right, || difference(right, came) + &told)?;
+    ended_well(ended)
+}
+
+/// Asks that a beginning of the right output came, and not its held line.
+fn is_beginning(right: &[u8], came: &[u8]) -> Verdict {
+    ask(came != right, || "all of the output came, with its held line".into())?;
+    ask(right.starts_with(came), || difference(right, came))
+}
+
+/// Asks for a beginning of the right output without its held line, and a message.
+fn gives_beginning(right: &[u8], (came, ended): &Came) -> Verdict {
+    ended_in_time(ended)?;
+    is_beginning(right, came)?;
+    ended_with_message(ended)
+}
+
+/// Asks for nothing on standard output, and a message.
+fn gives_message_only((came, ended): &Came) -> Verdict {
+    ended_in_time(ended)?;
+    ask(came.is_empty(), || format!("on standard output: {}", shown(came)))?;
+    ended_with_message(ended)
 }
 
 /// Everything that a source gives, but at most a megabyte more than is right.
@@ -192,7 +215,7 @@ fn interrupt(pid: u32) -> Verdict {
 fn is_at_rest(pid: u32) -> Verdict {
     let before = system::processor_time(pid).unwrap_or(0);
     sleep(Duration::from_secs(1));
-    let taken = system::processor_time(pid).unwrap_or(0) - before;
+    let taken = system::processor_time(pid).unwrap_or(0).saturating_sub(before);
     ask(system::state(pid) != Some('Z'), || "it ended and did not wait".into())?;
     ask(taken < 25, || format!("it took 0.{taken:02} s of a processor in a second of waiting"))
 }
@@ -202,9 +225,6 @@ pub struct Program {
     path: PathBuf,
     folder: PathBuf,
 }
-
-/// What came of one run: standard output, and how it ended.
-type Came = (Vec<u8>, Ended);
 
 impl Program {
     /// The program of this path; makes the folder.
@@ -250,9 +270,7 @@ impl Program {
     /// Hands an input over as a file, and asks for the whole output.
     fn through_file(&self, input: &[u8]) -> Verdict {
         let right = right_output(input);
-        let (came, ended) = self.run(self.command_on(input)?, &right)?;
-        is_whole(&right, &came)?;
-        ended_well(&ended)
+        gives_all(&right, &self.run(self.command_on(input)?, &right)?)
     }
 
     /// Hands an input over through a pipe in parts of this size, and asks for the whole output.
@@ -263,8 +281,7 @@ impl Program {
         let mut running = Watched::start(command)?;
         hand(running.take_input(), input, part, pause);
         let came = collected(running.take_output(), &right);
-        is_whole(&right, &came)?;
-        ended_well(&running.end())
+        gives_all(&right, &(came, running.end()))
     }
 
     /// Hands over a line, keeps the input open, and asks that the program ends at once.

@@ -78,10 +78,10 @@ fn into_limited_file(program: &Program, limit: usize) -> Result<Came, Trouble> {
 fn file_size_limit(program: &Program) -> Verdict {
     let right = &long_session().right;
     for limit in [0, 1, 100, 4095, 65_535, 65_536, 65_537, right.len() - 1] {
-        let (came, ended) = into_limited_file(program, limit)?;
-        is_beginning(right, &came)?;
-        ask(came.len() == limit, || format!("{} bytes where {limit} have room", came.len()))?;
-        ended_with_message(&ended)?;
+        let came = into_limited_file(program, limit)?;
+        gives_beginning(right, &came)?;
+        let length = came.0.len();
+        ask(length == limit, || format!("{length} bytes where {limit} have room"))?;
     }
     Ok(())
 }
@@ -89,9 +89,7 @@ fn file_size_limit(program: &Program) -> Verdict {
 /// A limit that the whole output just fits.
 fn file_size_limit_that_fits(program: &Program) -> Verdict {
     let right = &long_session().right;
-    let (came, ended) = into_limited_file(program, right.len())?;
-    is_whole(right, &came)?;
-    ended_well(&ended)
+    gives_all(right, &into_limited_file(program, right.len())?)
 }
 
 /// A limit that is lifted when it has been met: behind the first failure nothing is written.
@@ -112,8 +110,7 @@ fn file_size_limit_lifted(program: &Program) -> Verdict {
     let _ = to.write_all(&input[half..]);
     drop(to);
     let ended = running.end();
-    is_beginning(&right_output(&input), &fs::read(path)?)?;
-    ended_with_message(&ended)
+    gives_beginning(&right_output(&input), &(fs::read(path)?, ended))
 }
 
 /// A file system of 64 KiB, unmounted when it is let go of.
@@ -161,10 +158,9 @@ fn full_file_system(program: &Program) -> Verdict {
     let mut command = program.command_on(&long.bytes)?;
     command.stdout(File::create(&path)?);
     let ended = Watched::start(command)?.end();
-    let came = fs::read(path)?;
-    is_beginning(&long.right, &came)?;
-    ask(!came.is_empty(), || "nothing was written where 64 KiB have room".into())?;
-    ended_with_message(&ended)
+    let came = (fs::read(path)?, ended);
+    gives_beginning(&long.right, &came)?;
+    ask(!came.0.is_empty(), || "nothing was written where 64 KiB have room".into())
 }
 
 /// Reads slowly: not at all at first, then a page at a time.
@@ -193,8 +189,8 @@ fn start_not_blocking(program: &Program) -> Result<Watched, Trouble> {
 fn slow_reader(program: &Program) -> Verdict {
     let mut running = start_not_blocking(program)?;
     let right = &long_session().right;
-    is_whole(right, &read_slowly(running.take_output(), right))?;
-    ended_well(&running.end())
+    let came = read_slowly(running.take_output(), right);
+    gives_all(right, &(came, running.end()))
 }
 
 /// While such a pipe is full, the program waits without keeping a processor busy.
@@ -203,8 +199,8 @@ fn slow_reader_at_rest(program: &Program) -> Verdict {
     sleep(milliseconds(300));
     is_at_rest(running.pid)?;
     let right = &long_session().right;
-    is_whole(right, &collected(running.take_output(), right))?;
-    ended_well(&running.end())
+    let came = collected(running.take_output(), right);
+    gives_all(right, &(came, running.end()))
 }
 
 /// The program on the long session with a socket as output whose writes end after this time;
@@ -221,8 +217,8 @@ fn start_on_socket(program: &Program, time: Duration) -> Result<(Watched, UnixSt
 fn slow_reader_of_a_socket(program: &Program) -> Verdict {
     let (running, source) = start_on_socket(program, milliseconds(20))?;
     let right = &long_session().right;
-    is_whole(right, &read_slowly(source, right))?;
-    ended_well(&running.end())
+    let came = read_slowly(source, right);
+    gives_all(right, &(came, running.end()))
 }
 
 /// No output at all: a message, at once.
@@ -241,8 +237,7 @@ fn interrupt_writes(running: Watched, mut source: impl Read) -> Verdict {
         came.extend(read_up_to(source.by_ref(), 5000));
     }
     came.extend(collected(source, right));
-    is_whole(right, &came)?;
-    ended_well(&running.end())
+    gives_all(right, &(came, running.end()))
 }
 
 /// Interrupted writes to a pipe: a part of what was to be written is.
@@ -284,9 +279,7 @@ fn reader_gone_without_signal(program: &Program) -> Verdict {
     for count in [0, 1, 5000, 200_000] {
         let mut command = program.command_on(&long.bytes)?;
         system::ignoring(&mut command, SIGPIPE);
-        let (came, ended) = leave_after(command, count)?;
-        is_beginning(&long.right, &came)?;
-        ended_with_message(&ended)?;
+        gives_beginning(&long.right, &leave_after(command, count)?)?;
     }
     Ok(())
 }

@@ -22,8 +22,8 @@ pub struct Watched {
     output: Option<ChildStdout>,
     child: Arc<Mutex<Child>>,
     messages: Option<JoinHandle<Vec<u8>>>,
-    over: Sender<()>,
-    watcher: JoinHandle<bool>,
+    over: Option<Sender<()>>,
+    watcher: Option<JoinHandle<bool>>,
 }
 
 /// How a program ended: what it wrote to standard error, and whether it had to be killed.
@@ -71,8 +71,8 @@ impl Watched {
         let child = Arc::new(Mutex::new(child));
         let (over, ended) = channel();
         let watched = Arc::clone(&child);
-        let watcher = thread::spawn(move || watch(&watched, &ended));
-        Ok(Watched { pid, input, output, child, messages, over, watcher })
+        let watcher = Some(thread::spawn(move || watch(&watched, &ended)));
+        Ok(Watched { pid, input, output, child, messages, over: Some(over), watcher })
     }
 
     /// The end of the pipe to its input.
@@ -104,7 +104,7 @@ impl Watched {
     }
 
     /// Waits for the program's end.
-    pub fn end(self) -> Ended {
+    pub fn end(mut self) -> Ended {
         // The watcher kills it at the deadline, so that this ends.
         let status = loop {
             match self.status() {
@@ -112,9 +112,21 @@ impl Watched {
                 None => thread::sleep(Duration::from_millis(1)),
             }
         };
-        let _ = self.over.send(());
-        let killed = self.watcher.join().expect("the watcher does not panic");
-        let messages = self.messages.map(|reader| reader.join().expect("a reader does not panic"));
+        if let Some(over) = &self.over {
+            let _ = over.send(());
+        }
+        let killed = self.watcher.take().is_some_and(|watcher| watcher.join().unwrap_or(true));
+        let messages = self.messages.take().and_then(|reader| reader.join().ok());
         Ended { messages: messages.unwrap_or_default(), killed, status }
+    }
+}
+
+impl Drop for Watched {
+    /// Has the watcher kill a program that was not waited for.
+    fn drop(&mut self) {
+        self.over = None;
+        if let Some(watcher) = self.watcher.take() {
+            let _ = watcher.join();
+        }
     }
 }
