@@ -103,11 +103,12 @@ fn file_size_limit_lifted(program: &Program) -> Verdict {
     system::with_file_size(&mut command, limit);
     let mut running = Watched::start(command)?;
     let mut to = running.take_input();
-    // A program that has ended takes no input any more, and needs no limit.
+    // A program that has ended takes no input any more, which is what is asked for.
     let _ = to.write_all(&input[..half]);
-    running.ends_within(milliseconds(300));
-    let _ = system::lift_file_size(running.pid);
-    let _ = to.write_all(&input[half..]);
+    if !running.ends_within(milliseconds(300)) {
+        system::lift_file_size(running.pid)?;
+        let _ = to.write_all(&input[half..]);
+    }
     drop(to);
     let ended = running.end();
     gives_beginning(&right_output(&input), &(fs::read(path)?, ended))
