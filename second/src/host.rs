@@ -1,6 +1,6 @@
-//! The exported C library, called from the tools `differ` and `bench`. Where the
-//! archive was missing when the tools were built, `LINKED` is false and no call
-//! may be made.
+//! The exported C library, called from the tools `differ`, `bench` and `floating`.
+//! Where the archive was missing when the tools were built, `LINKED` is false and no
+//! call may be made.
 
 /// A record as the C library takes it.
 pub type Record = [u64; 52];

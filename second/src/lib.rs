@@ -9,10 +9,12 @@
 //!
 //! For the tools in `src/bin` only:
 //! - `random`: the generator of their numbers;
-//! - `trials`: records, calls and lines to try, fair and damaged.
+//! - `trials`: records, calls and lines to try, fair and damaged;
+//! - `outside`: trials of the program's input, output and arguments.
 
 pub mod convert;
 pub mod lines;
+pub mod outside;
 pub mod plant;
 pub mod random;
 pub mod session;

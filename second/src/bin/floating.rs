@@ -1,19 +1,25 @@
 //! What the floating-point link loses. The same random plants are run twice: by the
-//! exact link, and by the formulas of source document 004 in double precision, as
-//! simulators do it. For each balance it is counted how many runs do not close.
+//! proved link, through its C library, and by the formulas of source document 004 in
+//! double precision, as simulators do it. For each balance it is counted how many runs
+//! do not close.
 //!
 //!     floating [--seed N] [--runs N] [--calls N]
 //!
 //! The double-precision link takes document 01's stages and house figures, with
 //! 004's real divisions where document 01 has floors, and real units: COD and
 //! oxygen in g (a count is 0.001 g), nitrogen and nitrate in g N (a tick is 10^-7 g).
-//! It has no ceilings, so a call that the exact link refuses by 10 goes through.
+//! It has no ceilings, so a call that the proved link refuses by 10 goes through.
 //!
-//! Here: the options, 004's formulas, a run of both links, the table.
+//! Here: 004's formulas, the plant in double precision, the plant of the C library, a
+//! run of both, the table, the options.
 
-use second::plant::{Call, Plant, Told};
+#[path = "../host.rs"]
+mod host;
+
+use second::plant::Call;
 use second::random::Random;
 use second::tables::{self, asm1, digester, Asm1};
+use second::trials::form;
 use std::process::ExitCode;
 
 /// An ASM1 vector in g.
@@ -259,9 +265,9 @@ impl RealPlant {
     }
 }
 
-/// The exact plant, with the balances' incomings and outgoings so far, in counts.
-struct ExactPlant {
-    plant: Plant,
+/// The plant of the C library, with the balances' incomings and outgoings so far, in counts.
+struct ProvedPlant {
+    record: host::Record,
     received: [u128; 4],
     out: [u128; 4],
     accepted: u64,
@@ -277,38 +283,69 @@ fn add_counts(to: &mut [u128; 4], more: [u128; 4]) {
     to.iter_mut().zip(more).for_each(|(count, more)| *count += more);
 }
 
-impl ExactPlant {
+/// The numbers of an answer that begins with these words; none for another answer.
+fn numbers<const W: usize>(answer: &[u8], words: &str) -> Option<[u64; W]> {
+    let rest = std::str::from_utf8(answer).ok()?.strip_prefix(words)?;
+    let items = rest.split(|letter: char| !letter.is_ascii_digit()).filter(|item| !item.is_empty());
+    items.map(|item| item.parse().ok()).collect::<Option<Vec<u64>>>()?.try_into().ok()
+}
+
+impl ProvedPlant {
     /// The fresh plant.
-    fn fresh() -> ExactPlant {
-        ExactPlant { plant: Plant::FRESH, received: [0; 4], out: [0; 4], accepted: 0 }
+    fn fresh() -> ProvedPlant {
+        ProvedPlant { record: [0; 52], received: [0; 4], out: [0; 4], accepted: 0 }
     }
 
-    /// Makes a call; false where it is refused.
-    fn call(&mut self, call: &Call) -> bool {
-        let told = match self.plant.call(call) {
-            Ok(told) => told,
-            Err(_) => return false,
+    /// Makes a call; false where it is refused. The fields' order is drawn from `random`.
+    fn call(&mut self, random: &mut Random, call: &Call) -> bool {
+        let out = match call {
+            Call::Feed(k) => self.feed(*k),
+            _ => self.line(&form(random, call), call),
         };
-        self.accepted += 1;
-        match (call, told) {
-            (Call::Receive(v), _) => add_counts(&mut self.received, exact_measures(v)),
-            (_, Told::Fed(told)) => {
-                let gone = [told.burnt.into(), 0, told.oxygen.into(), told.nitrate.into()];
-                add_counts(&mut self.out, gone);
-            }
-            (_, Told::Returned(stripped)) => add_counts(&mut self.out, [stripped.into(), 0, 0, 0]),
-            (_, Told::Released(v)) => add_counts(&mut self.out, exact_measures(&v)),
-            _ => {}
+        if let Some(out) = out {
+            self.accepted += 1;
+            add_counts(&mut self.out, out);
         }
-        true
+        if let (Call::Receive(v), Some(_)) = (call, out) {
+            add_counts(&mut self.received, exact_measures(v));
+        }
+        out.is_some()
+    }
+
+    /// Feeds by numbers; gives what leaves the tanks, none where it is refused.
+    fn feed(&mut self, k: u64) -> Option<[u128; 4]> {
+        let mut told = [0; 4];
+        let refusal = host::feed(&mut self.record, k, &mut told);
+        let [burnt, oxygen, nitrate, _] = told.map(u128::from);
+        (refusal == 0).then_some([burnt, 0, oxygen, nitrate])
+    }
+
+    /// Makes another call by its line; gives what leaves the tanks, none where it is refused.
+    fn line(&mut self, line: &[u8], call: &Call) -> Option<[u128; 4]> {
+        let mut buffer = [0; 512];
+        let length = host::line(&mut self.record, line, &mut buffer);
+        let answer = &buffer[..length];
+        if answer.starts_with(b"(no ") {
+            return None;
+        }
+        let out = match call {
+            Call::Receive(_) => numbers(answer, "(ok receive)").map(|[]| [0; 4]),
+            Call::Return(_) => {
+                numbers(answer, "(ok return stripped ").map(|[stripped]| [stripped.into(), 0, 0, 0])
+            }
+            _ => numbers(answer, "(ok release ").map(|v| exact_measures(&v)),
+        };
+        Some(out.unwrap_or_else(|| panic!("a wrong answer: {}", answer.escape_ascii())))
     }
 
     /// Received less what is held and what went out, for each balance, in counts.
     fn gaps(&self) -> [i128; 4] {
-        let held = self.plant.held().expect("a record that calls gave is within its ceilings");
-        let held = [held.cod, held.tkn, held.oxygen, held.nitrate];
+        let mut buffer = [0; 512];
+        let length = host::held(&self.record, &mut buffer);
+        let held = numbers::<4>(&buffer[..length], "(held cod ")
+            .expect("a record that calls gave is within its ceilings");
         std::array::from_fn(|which| {
-            self.received[which] as i128 - (held[which] + self.out[which]) as i128
+            self.received[which] as i128 - (u128::from(held[which]) + self.out[which]) as i128
         })
     }
 }
@@ -362,7 +399,7 @@ struct Row {
     not_zero: u64,
     off: u64,
     greatest: f64,
-    exact_open: u64,
+    proved_open: u64,
 }
 
 /// What is counted over all runs of a size.
@@ -374,14 +411,14 @@ struct Report {
 }
 
 impl Report {
-    /// Counts one run's gaps: the real ones in g, the exact ones in counts.
-    fn add(&mut self, gaps: [f64; 4], exact: [i128; 4]) {
+    /// Counts one run's gaps: the real ones in g, those of the proved link in counts.
+    fn add(&mut self, gaps: [f64; 4], proved: [i128; 4]) {
         for (which, row) in self.rows.iter_mut().enumerate() {
             let counts = gaps[which] * COUNTS[which];
             row.not_zero += u64::from(gaps[which] != 0.0);
             row.off += u64::from(counts.round() != 0.0);
             row.greatest = row.greatest.max(counts.abs());
-            row.exact_open += u64::from(exact[which] != 0);
+            row.proved_open += u64::from(proved[which] != 0);
         }
     }
 
@@ -389,28 +426,29 @@ impl Report {
     fn print(&self, size: &Size, runs: u64) {
         println!("{} ({} accepted calls)", size.name, self.accepted);
         println!(
-            "  balance {:>9} {:>14} {:>15} {:>16} {:>19}",
-            "runs", "not exactly 0", "off by a count", "greatest gap", "exact: not closed"
+            "  balance {:>9} {:>14} {:>15} {:>16} {:>20}",
+            "runs", "not exactly 0", "off by a count", "greatest gap", "proved: not closed"
         );
         for ((name, unit), row) in BALANCES.iter().zip(&self.rows) {
-            let Row { not_zero, off, greatest, exact_open } = row;
+            let Row { not_zero, off, greatest, proved_open } = row;
             print!("  {name:<8} {runs:>8} {not_zero:>14} {off:>15}");
-            println!(" {greatest:>10.2e} {unit:<5} {exact_open:>19}");
+            println!(" {greatest:>10.2e} {unit:<5} {proved_open:>20}");
         }
         println!("  calls that one link accepts and the other refuses: {}", self.judged_apart);
     }
 }
 
-/// Runs one plant by both links, with the same calls.
+/// Runs one plant by both links, with the same calls. The fields' order is drawn from a copy,
+/// so that the next call does not depend on how this one was written.
 fn one_run(random: &mut Random, size: &Size, calls: u64, report: &mut Report) {
-    let (mut plant, mut exact) = (RealPlant::fresh(), ExactPlant::fresh());
+    let (mut plant, mut proved) = (RealPlant::fresh(), ProvedPlant::fresh());
     for _ in 0..calls {
         let call = next_call(random, size);
-        let accepted = exact.call(&call);
+        let accepted = proved.call(&mut random.clone(), &call);
         report.judged_apart += u64::from(plant.call(&call) != accepted);
     }
-    report.accepted += exact.accepted;
-    report.add(plant.gaps(), exact.gaps());
+    report.accepted += proved.accepted;
+    report.add(plant.gaps(), proved.gaps());
 }
 
 /// Reads the options: seed, runs of each size, calls of each run.
@@ -428,15 +466,8 @@ fn options() -> Result<[u64; 3], String> {
     Ok(options)
 }
 
-/// Runs every size and prints its table; fails where an exact run does not close.
-fn main() -> ExitCode {
-    let [seed, runs, calls] = match options() {
-        Ok(options) => options,
-        Err(error) => {
-            eprintln!("floating: {error}");
-            return ExitCode::from(2);
-        }
-    };
+/// Runs every size and prints its table; gives how many balances of the proved link are open.
+fn run([seed, runs, calls]: [u64; 3]) -> u64 {
     println!("What the floating-point link loses: seed {seed}, {runs} runs of {calls} calls each");
     let mut open = 0;
     for (number, size) in SIZES.iter().enumerate() {
@@ -446,11 +477,24 @@ fn main() -> ExitCode {
             one_run(&mut random, size, calls, &mut report);
         }
         report.print(size, runs);
-        open += report.rows.iter().map(|row| row.exact_open).sum::<u64>();
+        open += report.rows.iter().map(|row| row.proved_open).sum::<u64>();
     }
-    if open == 0 {
-        ExitCode::SUCCESS
-    } else {
-        ExitCode::FAILURE
+    open
+}
+
+/// Ends with status 0 where every run of the proved link closes, 1 where one does not, and 2
+/// on a wrong command line or without the C library.
+fn main() -> ExitCode {
+    let linked = match host::LINKED {
+        true => options(),
+        false => Err("the C library was missing when this was built".into()),
+    };
+    match linked.map(run) {
+        Ok(0) => ExitCode::SUCCESS,
+        Ok(_) => ExitCode::FAILURE,
+        Err(error) => {
+            eprintln!("floating: {error}");
+            ExitCode::from(2)
+        }
     }
 }
