@@ -5,7 +5,7 @@ ghost use Rattle.vectors.specs.Columns.{Below, asm1Ceilings};
 ghost use Rattle.vectors.specs.Figures.{Permitted};
 ghost use Rattle.vectors.specs.Units.{asm1Counts, digesterCounts};
 ghost use Rattle.interface.specs.Feed.{nitrateRule, ceil, warnOf, stage1, stages, fedVector, feedRefused, feedTaken, feedAsm1, feedOf};
-ghost use Rattle.interface.specs.Held.{Low, Demands, Leaves, AcidsHeld, InertsHeld, RemainsHeld, StagesHeld};
+ghost use Rattle.interface.specs.Structs.{Low, Demands, Leaves, AcidsHeld, InertsHeld, RemainsHeld, StagesHeld};
 use vectors::Asm1;
 use vectors::Digester;
 use vectors::Figures;

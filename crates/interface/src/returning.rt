@@ -6,7 +6,7 @@ ghost use Rattle.vectors.specs.Figures.{Permitted};
 ghost use Rattle.vectors.specs.Units.{asm1Counts, digesterCounts};
 ghost use Rattle.vectors.specs.Totals.{degraders};
 ghost use Rattle.interface.specs.Return.{soluble, particulate, nitrogenOf, taken, returnedVector, returnRefused, returnTaken, returnDigester, returnOf};
-ghost use Rattle.interface.specs.Held.{LowDigester, nitrogenCounts};
+ghost use Rattle.interface.specs.Structs.{LowDigester, nitrogenCounts};
 use vectors::Asm1;
 use vectors::Digester;
 use vectors::Figures;

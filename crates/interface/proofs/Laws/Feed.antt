@@ -19,7 +19,7 @@ use Rattle.interface.specs.declared.feed.Fed.{Fed}
 use Rattle.vectors.specs.declared.columns.Asm1 as inAsm1
 use Rattle.vectors.specs.Columns.{Asm1, asm1, asm1Columns, asm1Ceilings, Below}
 use Rattle.vectors.specs.Units.{asm1Counts}
-use Rattle.interface.specs.Held.{Low}
+use Rattle.interface.specs.Structs.{Low}
 use Rattle.interface.specs.Feed.{NitrateRule, nitrateRule, ceil, warnOf, Stage1, Stage2, Stage4}
 use Rattle.interface.specs.Feed.{stage1, stage2, stage3, stage4, stage5, stages, feedRefused, feedTaken, feedAsm1, feedOf}
 use Rattle.interface.specs.Laws.{FeedLaw}
