@@ -6,8 +6,8 @@ ghost use lib.Dec.{eqb};
 ghost use Rattle.vectors.specs.Columns.{Below, digesterCeilings};
 ghost use Rattle.vectors.specs.Figures.{house};
 ghost use Rattle.vectors.specs.Totals.{digesterOxygen, digesterNitrate};
-ghost use Rattle.plant.specs.Answer.{first};
-ghost use Rattle.plant.specs.Calls.{step, settling, settledTests};
+ghost use Rattle.plant.specs.Answer.{told, first};
+ghost use Rattle.plant.specs.Calls.{step, toldOf, settling, settledTests};
 use crate::answer::Answer;
 use crate::answer::Outcome;
 use crate::answer::refusal;
@@ -19,6 +19,7 @@ use vectors::Ticks;
 // Refusals 1, 3, 7, 8 and 9.
 pub fn settle(plant: Plant, gas: Milligrams, d: [u64; 26]) -> Outcome
     ensures { λ r. ⌜ r ≡ step house plant (settling gas d) ⌝ }
+    ensures { λ r. ⌜ told (r .answer) ≡ toldOf house plant (settling gas d) ⌝ }
 {
     if record_within(plant) {
         if vectors::digester_within(d) {
