@@ -12,6 +12,7 @@ use Rattle.plant.specs.Calls.{fedTests, fed, feed}
 use Rattle.plant.proofs.Laws.Record.{sludge-within, thousandths-le}
 use Rattle.plant.proofs.Laws.Calls.{answered}
 use Rattle.plant.proofs.Laws.Decision.{stop, pass, flag}
+use native.Mathlib.Omega.{arith}
 use borrow.Author.Needs.{needs}
 use Rattle.plant.proofs.feeding.feed.Statement.{statement}
 use Rattle.plant.proofs.feeding.feed.Tie as tie
@@ -35,16 +36,16 @@ low c =
     )
 
 asm1-drawn-requires : tie.Need-asm1-drawn-requires
-asm1-drawn-requires c κs = low c
+asm1-drawn-requires c κs = (low c .0, omega (arith, low c .1))
 
 asm1-rest-requires : tie.Need-asm1-rest-requires
-asm1-rest-requires c κs = low (c .before)
+asm1-rest-requires c κs = (low (c .before) .0, omega (arith, low (c .before) .1))
 
 feed-of-requires : tie.Need-feed-of-requires
 feed-of-requires c κs =
     let at-drawn = c .before in
     let held = low (at-drawn .before) in
-    (house-permitted, rw (at-drawn .asm1-drawn .ensures) (drawn-below asm1Ceilings _ _ (held .0) (held .1)))
+    (house-permitted, rw (at-drawn .asm1-drawn .ensures) (drawn-below asm1Ceilings _ _ (held .0) (omega (arith, held .1))))
 
 feed-converted-requires : tie.Need-feed-converted-requires
 feed-converted-requires c κs = search needs

@@ -12,6 +12,7 @@ use Rattle.plant.specs.Calls.{returnedTests, returned, giveBack}
 use Rattle.plant.proofs.Laws.Record.{digester-within, thousandths-le}
 use Rattle.plant.proofs.Laws.Calls.{answered}
 use Rattle.plant.proofs.Laws.Decision.{stop, pass, flag}
+use native.Mathlib.Omega.{arith}
 use borrow.Author.Needs.{needs}
 use Rattle.plant.proofs.returning.give_back.Statement.{statement}
 use Rattle.plant.proofs.returning.give_back.Tie as tie
@@ -35,16 +36,16 @@ low c =
     )
 
 digester-drawn-requires : tie.Need-digester-drawn-requires
-digester-drawn-requires c κs = low c
+digester-drawn-requires c κs = (low c .0, omega (arith, low c .1))
 
 digester-rest-requires : tie.Need-digester-rest-requires
-digester-rest-requires c κs = low (c .before)
+digester-rest-requires c κs = (low (c .before) .0, omega (arith, low (c .before) .1))
 
 return-of-requires : tie.Need-return-of-requires
 return-of-requires c κs =
     let at-drawn = c .before in
     let held = low (at-drawn .before) in
-    (house-permitted, rw (at-drawn .digester-drawn .ensures) (drawn-below digesterCeilings _ _ (held .0) (held .1)))
+    (house-permitted, rw (at-drawn .digester-drawn .ensures) (drawn-below digesterCeilings _ _ (held .0) (omega (arith, held .1))))
 
 return-converted-requires : tie.Need-return-converted-requires
 return-converted-requires c κs = search needs
