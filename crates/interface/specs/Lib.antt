@@ -1,5 +1,5 @@
 pub mod Feed
 pub mod Return
-pub mod Held
+pub mod Structs
 pub mod Plants
 pub mod Laws

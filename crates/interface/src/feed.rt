@@ -5,7 +5,7 @@ ghost use Rattle.vectors.specs.Columns.{Below, asm1Ceilings};
 ghost use Rattle.vectors.specs.Figures.{Permitted};
 ghost use Rattle.vectors.specs.Units.{asm1Counts, digesterCounts};
 ghost use Rattle.interface.specs.Feed.{nitrateRule, ceil, warnOf, stage1, stages, fedVector, feedRefused, feedTaken, feedAsm1, feedOf};
-ghost use Rattle.interface.specs.Held.{Low, Demands, Leaves, AcidsHeld, InertsHeld, RemainsHeld, StagesHeld};
+ghost use Rattle.interface.specs.Structs.{Low, Demands, Leaves, AcidsHeld, InertsHeld, RemainsHeld, StagesHeld};
 use vectors::Asm1;
 use vectors::Digester;
 use vectors::Figures;
@@ -48,7 +48,7 @@ fn feed_asm1(f: Figures, v: Asm1) -> Fed
     if inerts.short {
         return feed_refused(4);
     }
-    if demand.a.0 < demand.d.0 {
+    if demand.a.is_under(demand.d) {
         return feed_refused(6);
     }
     let remains = remains_of(f, v, left, inerts);
@@ -130,10 +130,10 @@ fn demand_of(v: Asm1) -> Demand
     requires { ⌜ Low v ⌝ }
     ensures { λ r. ⌜ Demands r (stage1 nitrateRule (asm1Counts v)) ⌝ }
 {
-    let a = Milligrams(v.ss.0 + v.xs.0 + v.xbh.0 + v.xba.0);
+    let a = v.ss.plus(v.xs).plus(v.xbh).plus(v.xba);
     let o = v.so.least(a);
     let r = v.sno.least(reducible(a.less(o)));
-    let d = Milligrams(o.0 + nitrate_cod(r).0);
+    let d = o.plus(nitrate_cod(r));
     Demand {
         a: a,
         o: o,
@@ -178,8 +178,8 @@ fn left_of(v: Asm1, demand: Demand) -> Left
 fn warn_of(co: Milligrams, cn: Ticks) -> u64
     ensures { λ r. ⌜ r ≡ warnOf (co .0) (cn .0) ⌝ }
 {
-    if co.0 == 0 {
-        if cn.0 == 0 {
+    if co.is_none() {
+        if cn.is_none() {
             return 0;
         }
     }
@@ -209,9 +209,9 @@ fn pool_of(f: Figures, v: Asm1, acids: Acids) -> Ticks
     ensures { λ r. ⌜ (r .0 ≡ stages f (asm1Counts v) .P) × (r .0 ≤ 60000000000000000) ⌝ }
 {
     let soluble = v.snd.less(nitrogen(f.naa, acids.saa));
-    let biomass = nitrogen(f.ixb, Milligrams(v.xbh.0 + v.xba.0));
-    let inert = nitrogen(f.ixe, Milligrams(v.xi.0 + v.xp.0));
-    Ticks(soluble.0 + v.xnd.0 + biomass.0 + inert.0)
+    let biomass = nitrogen(f.ixb, v.xbh.plus(v.xba));
+    let inert = nitrogen(f.ixe, v.xi.plus(v.xp));
+    soluble.plus(v.xnd).plus(biomass).plus(inert)
 }
 
 // What stage 4 gives: the digester's xi, the pool and the ammonia left, and whether nitrogen is short.
@@ -227,13 +227,13 @@ fn inerts_of(f: Figures, v: Asm1, pool: Ticks) -> Inerts
     requires { ⌜ (Permitted f) × ((Low v) × ((pool .0 ≡ stages f (asm1Counts v) .P) × (pool .0 ≤ 60000000000000000))) ⌝ }
     ensures { λ r. ⌜ InertsHeld r (stages f (asm1Counts v) .s4) (v .xi .0 + v .xp .0) ⌝ }
 {
-    let xi = share(Milligrams(v.xi.0 + v.xp.0), f.fxi, 10000);
-    let q = nitrogen(f.ni, Milligrams(v.si.0 + xi.0));
+    let xi = share(v.xi.plus(v.xp), f.fxi, 10000);
+    let q = nitrogen(f.ni, v.si.plus(xi));
     Inerts {
         xi: xi,
         pool: pool.less(q),
         ammonia: v.snh.less(q.less(pool)),
-        short: pool.0 + v.snh.0 < q.0,
+        short: pool.plus(v.snh).is_under(q),
     }
 }
 
@@ -250,7 +250,8 @@ fn remains_of(f: Figures, v: Asm1, left: Left, inerts: Inerts) -> Remains
     requires { ⌜ ((Permitted f) × (Low v)) × ((Leaves left (stage1 nitrateRule (asm1Counts v))) × (InertsHeld inerts (stages f (asm1Counts v) .s4) (v .xi .0 + v .xp .0))) ⌝ }
     ensures { λ r. ⌜ RemainsHeld r (stages f (asm1Counts v) .s5) ⌝ }
 {
-    let all = Milligrams(left.xs.0 + left.xbh.0 + left.xba.0 + v.xi.0 + v.xp.0 - inerts.xi.0);
+    let particulate = left.xs.plus(left.xbh).plus(left.xba).plus(v.xi).plus(v.xp);
+    let all = particulate.less(inerts.xi);
     let xc = afforded(all, inerts.pool, f.nxc);
     let rest = all.less(xc);
     let xch = share(rest, f.fch, f.fch + f.fli);
@@ -258,7 +259,7 @@ fn remains_of(f: Figures, v: Asm1, left: Left, inerts: Inerts) -> Remains
         xc: xc,
         xch: xch,
         xli: rest.less(xch),
-        sin: Ticks(inerts.ammonia.0 + inerts.pool.0).less(nitrogen(f.nxc, xc)),
+        sin: inerts.ammonia.plus(inerts.pool).less(nitrogen(f.nxc, xc)),
     }
 }
 

@@ -6,7 +6,7 @@ ghost use Rattle.vectors.specs.Figures.{Permitted};
 ghost use Rattle.vectors.specs.Units.{asm1Counts, digesterCounts};
 ghost use Rattle.vectors.specs.Totals.{degraders};
 ghost use Rattle.interface.specs.Return.{soluble, particulate, nitrogenOf, taken, returnedVector, returnRefused, returnTaken, returnDigester, returnOf};
-ghost use Rattle.interface.specs.Held.{LowDigester, nitrogenCounts};
+ghost use Rattle.interface.specs.Structs.{LowDigester, nitrogenCounts};
 use vectors::Asm1;
 use vectors::Digester;
 use vectors::Figures;
@@ -38,7 +38,7 @@ fn return_digester(f: Figures, d: Digester) -> Returned
 {
     let n = nitrogen_of(f, d);
     let q = nitrogen(f.ixe, d.xi);
-    if n.xnd.0 + n.snd.0 + n.snh.0 < q.0 {
+    if n.xnd.plus(n.snd).plus(n.snh).is_under(q) {
         return return_refused(5);
     }
     return_taken(f, d, n.without(q))
@@ -63,7 +63,7 @@ fn return_taken(f: Figures, d: Digester, left: Nitrogen) -> Returned
     let v = returned_vector(d, left);
     Returned {
         refusal: 0,
-        stripped: Milligrams(d.sh2.0 + d.sch4.0),
+        stripped: d.sh2.plus(d.sch4),
         vector: asm1_array(v),
     }
 }
@@ -102,8 +102,8 @@ fn nitrogen_of(f: Figures, d: Digester) -> Nitrogen
     let soluble = nitrogen(f.ni, d.si);
     let sin = d.sin;
     Nitrogen {
-        xnd: Ticks(composites.0 + protein.0 + biomass.0 + inert.0),
-        snd: Ticks(amino.0 + soluble.0),
+        xnd: composites.plus(protein).plus(biomass).plus(inert),
+        snd: amino.plus(soluble),
         snh: sin,
     }
 }
@@ -113,7 +113,13 @@ fn degraders_of(d: Digester) -> Milligrams
     requires { ⌜ LowDigester d ⌝ }
     ensures { λ r. ⌜ (r .0 ≡ degraders (digesterCounts d)) × (r .0 ≤ 7000000000000) ⌝ }
 {
-    Milligrams(d.xsu.0 + d.xaa.0 + d.xfa.0 + d.xc4.0 + d.xpro.0 + d.xac.0 + d.xh2.0)
+    d.xsu
+        .plus(d.xaa)
+        .plus(d.xfa)
+        .plus(d.xc4)
+        .plus(d.xpro)
+        .plus(d.xac)
+        .plus(d.xh2)
 }
 
 // The seven soluble columns from ssu to sac.
@@ -121,7 +127,13 @@ fn soluble_of(d: Digester) -> Milligrams
     requires { ⌜ LowDigester d ⌝ }
     ensures { λ r. ⌜ r .0 ≡ soluble (digesterCounts d) ⌝ }
 {
-    Milligrams(d.ssu.0 + d.saa.0 + d.sfa.0 + d.sva.0 + d.sbu.0 + d.spro.0 + d.sac.0)
+    d.ssu
+        .plus(d.saa)
+        .plus(d.sfa)
+        .plus(d.sva)
+        .plus(d.sbu)
+        .plus(d.spro)
+        .plus(d.sac)
 }
 
 // The eleven particulate columns except xi.
@@ -129,7 +141,11 @@ fn particulate_of(d: Digester) -> Milligrams
     requires { ⌜ LowDigester d ⌝ }
     ensures { λ r. ⌜ r .0 ≡ particulate (digesterCounts d) ⌝ }
 {
-    Milligrams(d.xc.0 + d.xch.0 + d.xpr.0 + d.xli.0 + degraders_of(d).0)
+    d.xc
+        .plus(d.xch)
+        .plus(d.xpr)
+        .plus(d.xli)
+        .plus(degraders_of(d))
 }
 
 // The ASM1 vector, with its nitrogen.

@@ -4,11 +4,13 @@
 --   receiveTests, feedTests, ..                their refusals, in the order in which they are tested
 --   fedTests, fed, settledTests, ..            parts of these that the code's parts cite
 --   stepBy, step                               any of them, by a request
---   refusalOf, ExactLaw                        the refusal that applies first, and that an answer tells just that
+--   refusalOf                                  the refusal that applies first, or 0
+--   tellsBy, toldOf                            what a call tells where none applies; the number and the values that a request is told
+--   TellsLaw, ExactLaw                         that an answer tells just these, and its number just the refusal
 --   request, receiving, feeding, ..            the requests
 --
 -- f is the set of figures; the code has the house set.
-use mathlib.Core.Bool.{_&&_}
+use mathlib.Core.Bool.{cond, _&&_}
 use mathlib.Core.List.{List, [], _∷_}
 use mathlib.Core.Path.{_≡_}
 use Prim.Native.Nat.{ℕ, _+_}
@@ -30,7 +32,7 @@ use Rattle.plant.specs.declared.answer.Call.the-variants as call
 use Rattle.plant.specs.declared.answer.Request.{Request}
 use Rattle.plant.specs.declared.answer.Outcome.{Outcome}
 use Rattle.plant.specs.Record.{noColumns, recordWithin, thousandths}
-use Rattle.plant.specs.Answer.{told, unless, first, decide}
+use Rattle.plant.specs.Answer.{Told, nothing, told, unless, first, decide}
 
 -- Receive adds an ASM1 vector to the sludge tank.
 abbrev pub receiveTests : Plant → List ℕ → List ℕ
@@ -143,7 +145,27 @@ testsBy f p (call.Release k) v d = releaseTests p k
 abbrev pub refusalOf : Figures → Plant → Request → ℕ
 refusalOf f p r = first (testsBy f p (r .call) (r .sludge) (r .digester))
 
--- the number that an answer tells is that one, exactly. proofs/Laws/Calls.antt proves it: exact
+-- what it tells where no refusal applies: a feed what its conversion burns and reduces, and warn; a return what its conversion strips;
+-- the others nothing
+abbrev pub tellsBy : Figures → Plant → Call → Told
+tellsBy f p call.Receive = nothing 0
+tellsBy f p (call.Feed k) =
+    let o = feedOf f (drawn k p.sludge) in
+    record { number = 0; burnt = o .burnt .0; oxygen = o .oxygen .0; nitrate = o .nitrate .0; warn = o .warn; stripped = 0 }
+tellsBy f p (call.Settle gas) = nothing 0
+tellsBy f p (call.Return k) =
+    record { number = 0; burnt = 0; oxygen = 0; nitrate = 0; warn = 0; stripped = returnOf f (drawn k p.digester) .stripped .0 }
+tellsBy f p (call.Release k) = nothing 0
+
+-- the first refusal that applies, with zeros; or 0, with what the call tells
+unfoldable pub toldOf : Figures → Plant → Request → Told
+toldOf f p r = let n = refusalOf f p r in cond (eqb n 0) (tellsBy f p (r .call)) (nothing n)
+
+-- an answer tells that number and these values. proofs/Laws/Calls.antt proves it: tells
+abbrev pub TellsLaw : Type 0
+TellsLaw = (f : Figures) (p : Plant) (r : Request) → told (step f p r .answer) ≡ toldOf f p r
+
+-- the number that an answer tells is the refusal that applies first, exactly. proofs/Laws/Calls.antt proves it: exact
 abbrev pub ExactLaw : Type 0
 ExactLaw = (f : Figures) (p : Plant) (r : Request) → told (step f p r .answer) .number ≡ refusalOf f p r
 

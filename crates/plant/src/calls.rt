@@ -1,7 +1,8 @@
 // Any of the five calls, by a request.
 ghost use mathlib.Core.Path.{_≡_};
 ghost use Rattle.vectors.specs.Figures.{house};
-ghost use Rattle.plant.specs.Calls.{step};
+ghost use Rattle.plant.specs.Answer.{told};
+ghost use Rattle.plant.specs.Calls.{step, toldOf};
 use crate::answer::Call;
 use crate::answer::Outcome;
 use crate::answer::Request;
@@ -15,6 +16,7 @@ use crate::settling::settle;
 // What the request's call gives on the record.
 pub fn answer_request(plant: Plant, request: Request) -> Outcome
     ensures { λ r. ⌜ r ≡ step house plant request ⌝ }
+    ensures { λ r. ⌜ told (r .answer) ≡ toldOf house plant request ⌝ }
 {
     let call = request.call;
     let sludge = request.sludge;

@@ -1,8 +1,8 @@
 // Feed draws k thousandths of the sludge tank, converts them and adds them to the digester.
 ghost use mathlib.Core.Path.{_≡_};
 ghost use Rattle.vectors.specs.Figures.{house};
-ghost use Rattle.plant.specs.Answer.{first, decide};
-ghost use Rattle.plant.specs.Calls.{step, feeding, fedTests, fed};
+ghost use Rattle.plant.specs.Answer.{told, first, decide};
+ghost use Rattle.plant.specs.Calls.{step, toldOf, feeding, fedTests, fed};
 use crate::answer::Answer;
 use crate::answer::Outcome;
 use crate::answer::refusal;
@@ -13,6 +13,7 @@ use crate::record::record_within;
 // Refusals 1, 2, 4, 6 and 10.
 pub fn feed(plant: Plant, k: u64) -> Outcome
     ensures { λ r. ⌜ r ≡ step house plant (feeding k) ⌝ }
+    ensures { λ r. ⌜ told (r .answer) ≡ toldOf house plant (feeding k) ⌝ }
 {
     if record_within(plant) {
         if is_thousandths(k) {
@@ -44,7 +45,7 @@ fn feed_converted(plant: Plant, o: interface::Fed, rest: [u64; 13]) -> Outcome
                 reject: reject,
             };
             return Outcome {
-                answer: told(o),
+                answer: fed_answer(o),
                 vector: [0; 13],
                 plant: next,
             };
@@ -55,7 +56,7 @@ fn feed_converted(plant: Plant, o: interface::Fed, rest: [u64; 13]) -> Outcome
 }
 
 // What an accepted feed tells.
-fn told(o: interface::Fed) -> Answer
+fn fed_answer(o: interface::Fed) -> Answer
     ensures { λ r. ⌜ r ≡ Answer.Fed (o .burnt) (o .oxygen) (o .nitrate) (o .warn) ⌝ }
 {
     let burnt = o.burnt;

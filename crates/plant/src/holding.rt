@@ -5,6 +5,7 @@ ghost use Rattle.vectors.specs.Columns.{Below, asm1Ceilings, digesterCeilings};
 ghost use Rattle.vectors.specs.Figures.{house};
 ghost use Rattle.plant.specs.Held.{heldOf};
 ghost use Rattle.vectors.specs.Totals.{asm1Cod, asm1Tkn, digesterCod, digesterTkn};
+ghost use Rattle.vectors.specs.Totals.{asm1Oxygen, asm1Nitrate, digesterOxygen, digesterNitrate};
 use crate::record::Plant;
 use crate::record::record_within;
 use vectors::Milligrams;
@@ -31,8 +32,8 @@ pub fn held(plant: Plant) -> HeldTotals
             refusal: 0,
             cod: cod_in(s, d, j),
             tkn: tkn_in(s, d, j),
-            oxygen: Milligrams(s[7] + d[24] + j[7]),
-            nitrate: Ticks(s[8] + d[25] + j[8]),
+            oxygen: oxygen_in(s, d, j),
+            nitrate: nitrate_in(s, d, j),
         };
     }
     HeldTotals {
@@ -44,6 +45,7 @@ pub fn held(plant: Plant) -> HeldTotals
     }
 }
 
+// COD of the three tanks.
 fn cod_in(s: [u64; 13], d: [u64; 26], j: [u64; 13]) -> Milligrams
     requires { ⌜ (Below asm1Ceilings s) × ((Below digesterCeilings d) × (Below asm1Ceilings j)) ⌝ }
     ensures { λ r. ⌜ r .0 ≡ asm1Cod s + digesterCod d + asm1Cod j ⌝ }
@@ -51,9 +53,10 @@ fn cod_in(s: [u64; 13], d: [u64; 26], j: [u64; 13]) -> Milligrams
     let a = vectors::asm1_cod(s);
     let b = vectors::digester_cod(d);
     let c = vectors::asm1_cod(j);
-    Milligrams(a.0 + b.0 + c.0)
+    a.plus(b).plus(c)
 }
 
+// TKN of the three tanks.
 fn tkn_in(s: [u64; 13], d: [u64; 26], j: [u64; 13]) -> Ticks
     requires { ⌜ (Below asm1Ceilings s) × ((Below digesterCeilings d) × (Below asm1Ceilings j)) ⌝ }
     ensures { λ r. ⌜ r .0 ≡ asm1Tkn house s + digesterTkn house d + asm1Tkn house j ⌝ }
@@ -61,5 +64,23 @@ fn tkn_in(s: [u64; 13], d: [u64; 26], j: [u64; 13]) -> Ticks
     let a = vectors::asm1_tkn(vectors::HOUSE, s);
     let b = vectors::digester_tkn(vectors::HOUSE, d);
     let c = vectors::asm1_tkn(vectors::HOUSE, j);
-    Ticks(a.0 + b.0 + c.0)
+    a.plus(b).plus(c)
+}
+
+// Oxygen: so of sludge and reject, and co of the digester.
+fn oxygen_in(s: [u64; 13], d: [u64; 26], j: [u64; 13]) -> Milligrams
+    requires { ⌜ (Below asm1Ceilings s) × ((Below digesterCeilings d) × (Below asm1Ceilings j)) ⌝ }
+    ensures { λ r. ⌜ r .0 ≡ asm1Oxygen s + digesterOxygen d + asm1Oxygen j ⌝ }
+{
+    Milligrams(s[7])
+        .plus(Milligrams(d[24]))
+        .plus(Milligrams(j[7]))
+}
+
+// Nitrate: sno of sludge and reject, and cn of the digester.
+fn nitrate_in(s: [u64; 13], d: [u64; 26], j: [u64; 13]) -> Ticks
+    requires { ⌜ (Below asm1Ceilings s) × ((Below digesterCeilings d) × (Below asm1Ceilings j)) ⌝ }
+    ensures { λ r. ⌜ r .0 ≡ asm1Nitrate s + digesterNitrate d + asm1Nitrate j ⌝ }
+{
+    Ticks(s[8]).plus(Ticks(d[25])).plus(Ticks(j[8]))
 }

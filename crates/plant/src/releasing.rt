@@ -1,7 +1,8 @@
 // Release draws k thousandths of the reject tank and hands them out.
 ghost use mathlib.Core.Path.{_≡_};
 ghost use Rattle.vectors.specs.Figures.{house};
-ghost use Rattle.plant.specs.Calls.{step, releasing};
+ghost use Rattle.plant.specs.Answer.{told};
+ghost use Rattle.plant.specs.Calls.{step, toldOf, releasing};
 use crate::answer::Answer;
 use crate::answer::Outcome;
 use crate::answer::refusal;
@@ -12,6 +13,7 @@ use crate::record::record_within;
 // Refusals 1 and 2.
 pub fn release(plant: Plant, k: u64) -> Outcome
     ensures { λ r. ⌜ r ≡ step house plant (releasing k) ⌝ }
+    ensures { λ r. ⌜ told (r .answer) ≡ toldOf house plant (releasing k) ⌝ }
 {
     if record_within(plant) {
         if is_thousandths(k) {

@@ -1,8 +1,8 @@
 // Return draws k thousandths of the digester, converts them and adds them to the reject tank.
 ghost use mathlib.Core.Path.{_≡_};
 ghost use Rattle.vectors.specs.Figures.{house};
-ghost use Rattle.plant.specs.Answer.{first, decide};
-ghost use Rattle.plant.specs.Calls.{step, returning, returnedTests, returned};
+ghost use Rattle.plant.specs.Answer.{told, first, decide};
+ghost use Rattle.plant.specs.Calls.{step, toldOf, returning, returnedTests, returned};
 use crate::answer::Answer;
 use crate::answer::Outcome;
 use crate::answer::refusal;
@@ -13,6 +13,7 @@ use crate::record::record_within;
 // Document 01's return, whose word the language keeps. Refusals 1, 2, 5 and 10.
 pub fn give_back(plant: Plant, k: u64) -> Outcome
     ensures { λ r. ⌜ r ≡ step house plant (returning k) ⌝ }
+    ensures { λ r. ⌜ told (r .answer) ≡ toldOf house plant (returning k) ⌝ }
 {
     if record_within(plant) {
         if is_thousandths(k) {

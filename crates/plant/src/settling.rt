@@ -6,18 +6,20 @@ ghost use lib.Dec.{eqb};
 ghost use Rattle.vectors.specs.Columns.{Below, digesterCeilings};
 ghost use Rattle.vectors.specs.Figures.{house};
 ghost use Rattle.vectors.specs.Totals.{digesterOxygen, digesterNitrate};
-ghost use Rattle.plant.specs.Answer.{first};
-ghost use Rattle.plant.specs.Calls.{step, settling, settledTests};
+ghost use Rattle.plant.specs.Answer.{told, first};
+ghost use Rattle.plant.specs.Calls.{step, toldOf, settling, settledTests};
 use crate::answer::Answer;
 use crate::answer::Outcome;
 use crate::answer::refusal;
 use crate::record::Plant;
 use crate::record::record_within;
 use vectors::Milligrams;
+use vectors::Ticks;
 
 // Refusals 1, 3, 7, 8 and 9.
 pub fn settle(plant: Plant, gas: Milligrams, d: [u64; 26]) -> Outcome
     ensures { λ r. ⌜ r ≡ step house plant (settling gas d) ⌝ }
+    ensures { λ r. ⌜ told (r .answer) ≡ toldOf house plant (settling gas d) ⌝ }
 {
     if record_within(plant) {
         if vectors::digester_within(d) {
@@ -52,7 +54,7 @@ fn open_balance(old: [u64; 26], gas: Milligrams, d: [u64; 26]) -> u64
     if cod_closes(vectors::digester_cod(old), vectors::digester_cod(d), gas) {
         let a = vectors::digester_tkn(vectors::HOUSE, old);
         let b = vectors::digester_tkn(vectors::HOUSE, d);
-        if a.0 == b.0 {
+        if a.equals(b) {
             if carried_same(old, d) {
                 return 0;
             }
@@ -67,18 +69,18 @@ fn open_balance(old: [u64; 26], gas: Milligrams, d: [u64; 26]) -> u64
 fn cod_closes(old: Milligrams, new: Milligrams, gas: Milligrams) -> bool
     ensures { λ r. ⌜ r ≡ eqb (old .0) (new .0 + gas .0) ⌝ }
 {
-    if new.0 <= old.0 {
-        return old.0 - new.0 == gas.0;
+    if old.is_under(new) {
+        return false;
     }
-    false
+    old.less(new).equals(gas)
 }
 
 // Whether oxygen and nitrate that are carried through are the same.
 fn carried_same(old: [u64; 26], d: [u64; 26]) -> bool
     ensures { λ r. ⌜ r ≡ (eqb (digesterOxygen old) (digesterOxygen d) && eqb (digesterNitrate old) (digesterNitrate d)) ⌝ }
 {
-    if old[24] == d[24] {
-        return old[25] == d[25];
+    if Milligrams(old[24]).equals(Milligrams(d[24])) {
+        return Ticks(old[25]).equals(Ticks(d[25]));
     }
     false
 }

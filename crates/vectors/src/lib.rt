@@ -1,6 +1,6 @@
 // Vectors of columns: units, figures, ceilings, draws and totals. It knows nothing of the conversions.
 //
-//   units      one tuple struct for each unit, and the sums that the conversions make with them
+//   units      one tuple struct for each unit, with its sums and tests
 //   figures    the nine figures, with the house set
 //   columns    vectors by the names of their columns
 //   ceilings   ceilings of the columns, and sums of vectors

@@ -1,7 +1,8 @@
-// One tuple struct for each unit of document 01, so that no function adds COD to nitrogen, and the sums that the conversions make
-// with them. `nitrogen` is the one place where COD becomes nitrogen.
+// One tuple struct for each unit of document 01, with its sums and tests, so that no function adds COD to nitrogen or compares the two.
+// `nitrogen` is the one place where COD becomes nitrogen.
 ghost use mathlib.Core.Path.{_≡_};
-ghost use Prim.Native.Nat.{_-_, _*_, _/_, _≤_, min};
+ghost use Prim.Native.Nat.{_+_, _-_, _*_, _/_, _≤_, min};
+ghost use lib.Dec.{ltb, eqb};
 
 // Milligrams of COD or of oxygen.
 pub struct Milligrams(pub u64);
@@ -13,6 +14,14 @@ pub struct Ticks(pub u64);
 pub struct Millimoles(pub u64);
 
 impl Milligrams {
+    // The sum of the two.
+    pub fn plus(self, other: Milligrams) -> Milligrams
+        requires { ⌜ self .0 + other .0 ≤ 100000000000000 ⌝ }
+        ensures { λ r. ⌜ (r .0 ≡ self .0 + other .0) × (r .0 ≤ 100000000000000) ⌝ }
+    {
+        Milligrams(self.0 + other.0)
+    }
+
     // What is left when other is taken from it, or nothing.
     pub fn less(self, other: Milligrams) -> Milligrams
         ensures { λ r. ⌜ (r .0 ≡ self .0 - other .0) × (r .0 ≤ self .0) ⌝ }
@@ -26,9 +35,38 @@ impl Milligrams {
     {
         Milligrams(smaller(self.0, other.0))
     }
+
+    // Whether it is less than other.
+    pub fn is_under(self, other: Milligrams) -> bool
+        ensures { λ r. ⌜ r ≡ ltb (self .0) (other .0) ⌝ }
+    {
+        is_smaller(self.0, other.0)
+    }
+
+    // Whether it is as much as other.
+    pub fn equals(self, other: Milligrams) -> bool
+        ensures { λ r. ⌜ r ≡ eqb (self .0) (other .0) ⌝ }
+    {
+        self.0 == other.0
+    }
+
+    // Whether it is nothing.
+    pub fn is_none(self) -> bool
+        ensures { λ r. ⌜ r ≡ eqb (self .0) 0 ⌝ }
+    {
+        self.0 == 0
+    }
 }
 
 impl Ticks {
+    // The sum of the two.
+    pub fn plus(self, other: Ticks) -> Ticks
+        requires { ⌜ self .0 + other .0 ≤ 1000000000000000000 ⌝ }
+        ensures { λ r. ⌜ (r .0 ≡ self .0 + other .0) × (r .0 ≤ 1000000000000000000) ⌝ }
+    {
+        Ticks(self.0 + other.0)
+    }
+
     // What is left when other is taken from it, or nothing.
     pub fn less(self, other: Ticks) -> Ticks
         ensures { λ r. ⌜ (r .0 ≡ self .0 - other .0) × (r .0 ≤ self .0) ⌝ }
@@ -41,6 +79,27 @@ impl Ticks {
         ensures { λ r. ⌜ (r .0 ≡ min (self .0) (other .0)) × ((r .0 ≤ self .0) × (r .0 ≤ other .0)) ⌝ }
     {
         Ticks(smaller(self.0, other.0))
+    }
+
+    // Whether it is less than other.
+    pub fn is_under(self, other: Ticks) -> bool
+        ensures { λ r. ⌜ r ≡ ltb (self .0) (other .0) ⌝ }
+    {
+        is_smaller(self.0, other.0)
+    }
+
+    // Whether it is as much as other.
+    pub fn equals(self, other: Ticks) -> bool
+        ensures { λ r. ⌜ r ≡ eqb (self .0) (other .0) ⌝ }
+    {
+        self.0 == other.0
+    }
+
+    // Whether it is nothing.
+    pub fn is_none(self) -> bool
+        ensures { λ r. ⌜ r ≡ eqb (self .0) 0 ⌝ }
+    {
+        self.0 == 0
     }
 }
 
@@ -66,6 +125,13 @@ pub fn share(x: Milligrams, a: u64, b: u64) -> Milligrams
     ensures { λ r. ⌜ (r .0 ≡ a * x .0 / b) × (r .0 ≤ x .0) ⌝ }
 {
     Milligrams(a * x.0 / b)
+}
+
+// The functions on counts that both units share.
+fn is_smaller(a: u64, b: u64) -> bool
+    ensures { λ r. ⌜ r ≡ ltb a b ⌝ }
+{
+    a < b
 }
 
 fn smaller(a: u64, b: u64) -> u64

@@ -20,7 +20,7 @@ refusal-of-requires : tie.Need-refusal-of-requires
 refusal-of-requires c κs = search needs
 
 returns : tie.Need-returns
-returns c = feed-called (c .before .before .before .before .before .before .plant-at .ensures) (c .before .before .before .before .before .feed .ensures) (c .before .before .put-plant .ensures) (c .refusal-of .ensures) (c .before .four-of .ensures)
+returns c = feed-called (c .before .before .before .before .before .before .plant-at .ensures) (c .before .before .before .before .before .feed .ensures .0) (c .before .before .put-plant .ensures) (c .refusal-of .ensures) (c .before .four-of .ensures)
 
 pub jilghvani-feed-spec : {M : Type 1} → statement M
 jilghvani-feed-spec =

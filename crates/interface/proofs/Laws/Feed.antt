@@ -1,4 +1,5 @@
--- Laws of the feed stages, and that an accepted feed keeps COD, TKN, oxygen and nitrate. Users of a stage go by these laws and not by its text. Assumes nothing.
+-- Laws of the feed stages, and that an accepted feed keeps COD, TKN, oxygen and nitrate.
+-- Users of a stage go by these laws and not by its text. Assumes nothing.
 --
 --   stage1-..  ..  stage5-..      what each stage keeps
 --   stage1-is  ..  stage5-is      the same numbers, step by step
@@ -18,8 +19,9 @@ use Rattle.interface.specs.declared.feed.Fed.{Fed}
 use Rattle.vectors.specs.declared.columns.Asm1 as inAsm1
 use Rattle.vectors.specs.Columns.{Asm1, asm1, asm1Columns, asm1Ceilings, Below}
 use Rattle.vectors.specs.Units.{asm1Counts}
-use Rattle.interface.specs.Held.{Low}
-use Rattle.interface.specs.Feed.{NitrateRule, nitrateRule, ceil, warnOf, Stage1, Stage2, Stage4, stage1, stage2, stage3, stage4, stage5, stages, feedRefused, feedTaken, feedAsm1, feedOf}
+use Rattle.interface.specs.Structs.{Low}
+use Rattle.interface.specs.Feed.{NitrateRule, nitrateRule, ceil, warnOf, Stage1, Stage2, Stage4}
+use Rattle.interface.specs.Feed.{stage1, stage2, stage3, stage4, stage5, stages, feedRefused, feedTaken, feedAsm1, feedOf}
 use Rattle.interface.specs.Laws.{FeedLaw}
 use Rattle.vectors.proofs.Laws.Units.{afford, share-le}
 
@@ -105,11 +107,11 @@ module _ (f : Figures) (v : Asm1) (s1 : Stage1) (s4 : Stage4) where
 -- ---- the stages, step by step: numbers that are made as the stage makes its own are the stage's own
 
 module _ (n : NitrateRule) (v : Asm1) where
-  pub stage1-is : {a o x m r k d : ℕ} → a ≡ v.ss + v.xs + v.xbh + v.xba → o ≡ min v.so a → x ≡ a - o → m ≡ n.ticks * x / n.cod
-      → r ≡ min v.sno m → k ≡ ceil (n.cod * r) n.ticks → d ≡ o + k
+  pub stage1-is : {s t a o x m r k d : ℕ} → s ≡ v.ss + v.xs → t ≡ s + v.xbh → a ≡ t + v.xba → o ≡ min v.so a → x ≡ a - o
+      → m ≡ n.ticks * x / n.cod → r ≡ min v.sno m → k ≡ ceil (n.cod * r) n.ticks → d ≡ o + k
       → (a ≡ stage1 n v .A) × (o ≡ stage1 n v .o) × (r ≡ stage1 n v .r) × (d ≡ stage1 n v .D)
   unfolding stage1
-  stage1-is a o x m r k d = (a, cc, cc, cc)
+  stage1-is s t a o x m r k d = (cc, cc, cc, cc)
 
 module _ (f : Figures) (v : Asm1) (s1 : Stage1) where
   pub stage2-is : {ss saa ssu : ℕ} → ss ≡ s1.ss → saa ≡ min ss (v.snd / f.naa) → ssu ≡ ss - saa
@@ -118,25 +120,28 @@ module _ (f : Figures) (v : Asm1) (s1 : Stage1) where
   stage2-is ss saa ssu = (cc, cc)
 
 module _ (f : Figures) (v : Asm1) (s2 : Stage2) where
-  pub stage3-is : {saa n left biomass inert : ℕ} → saa ≡ s2.saa → n ≡ f.naa * saa → left ≡ v.snd - n → biomass ≡ f.ixb * (v.xbh + v.xba)
-      → inert ≡ f.ixe * (v.xi + v.xp) → left + v.xnd + biomass + inert ≡ stage3 f v s2
+  pub stage3-is : {saa n left b biomass i inert s t P : ℕ} → saa ≡ s2.saa → n ≡ f.naa * saa → left ≡ v.snd - n
+      → b ≡ v.xbh + v.xba → biomass ≡ f.ixb * b → i ≡ v.xi + v.xp → inert ≡ f.ixe * i
+      → s ≡ left + v.xnd → t ≡ s + biomass → P ≡ t + inert → P ≡ stage3 f v s2
   unfolding stage3
-  stage3-is saa n left biomass inert = cc
+  stage3-is saa n left b biomass i inert s t P = cc
 
 module _ (f : Figures) (v : Asm1) (P : ℕ) where
-  pub stage4-is : {p xi q p' x h : ℕ} → p ≡ P → xi ≡ f.fxi * (v.xi + v.xp) / 10000 → q ≡ f.ni * (v.si + xi) → p' ≡ p - q → x ≡ q - p
-      → h ≡ v.snh - x
-      → (p' ≡ stage4 f v P .P') × (h ≡ stage4 f v P .H') × (ltb (p + v.snh) q ≡ stage4 f v P .short)
+  pub stage4-is : {p i xi m q p' x h n : ℕ} {short : Bool} → p ≡ P → i ≡ v.xi + v.xp → xi ≡ f.fxi * i / 10000 → m ≡ v.si + xi
+      → q ≡ f.ni * m → p' ≡ p - q → x ≡ q - p → h ≡ v.snh - x → n ≡ p + v.snh → short ≡ ltb n q
+      → (xi ≡ stage4 f v P .xi) × (p' ≡ stage4 f v P .P') × (h ≡ stage4 f v P .H') × (short ≡ stage4 f v P .short)
   unfolding stage4
-  stage4-is p xi q p' x h = (cc, cc, cc)
+  stage4-is p i xi m q p' x h n short = (cc, cc, cc, cc)
 
 module _ (f : Figures) (v : Asm1) (s1 : Stage1) (s4 : Stage4) where
-  pub stage5-is : {all pool ammonia xc rest xch xli n sin : ℕ} → all ≡ s1.xs + s1.xbh + s1.xba + v.xi + v.xp - s4.xi → pool ≡ s4.P'
-      → ammonia ≡ s4.H' → xc ≡ min all (pool / f.nxc) → rest ≡ all - xc → xch ≡ f.fch * rest / (f.fch + f.fli) → xli ≡ rest - xch
-      → n ≡ f.nxc * xc → sin ≡ ammonia + pool - n
+  pub stage5-is : {xs xbh xba xi pool ammonia a b c d all xc rest xch xli m n sin : ℕ}
+      → xs ≡ s1.xs → xbh ≡ s1.xbh → xba ≡ s1.xba → xi ≡ s4.xi → pool ≡ s4.P' → ammonia ≡ s4.H'
+      → a ≡ xs + xbh → b ≡ a + xba → c ≡ b + v.xi → d ≡ c + v.xp → all ≡ d - xi
+      → xc ≡ min all (pool / f.nxc) → rest ≡ all - xc → xch ≡ f.fch * rest / (f.fch + f.fli) → xli ≡ rest - xch
+      → m ≡ ammonia + pool → n ≡ f.nxc * xc → sin ≡ m - n
       → (xc ≡ stage5 f v s1 s4 .xc) × (xch ≡ stage5 f v s1 s4 .xch) × (xli ≡ stage5 f v s1 s4 .xli) × (sin ≡ stage5 f v s1 s4 .sin)
   unfolding stage5
-  stage5-is all pool ammonia xc rest xch xli n sin = (cc, cc, cc, cc)
+  stage5-is xs xbh xba xi pool ammonia a b c d all xc rest xch xli m n sin = (cc, cc, cc, cc)
 
 -- ---- the whole conversion
 
@@ -176,7 +181,8 @@ module _ (f : Figures) (v : Asm1) where
   unfolding feedAsm1
   feed-over t u = rw (t, u)
 
-  pub feed-taken : stages f v .s4 .short ≡ false → ltb (stages f v .s1 .A) (stages f v .s1 .D) ≡ false → feedTaken v (stages f v) ≡ feedAsm1 f v
+  pub feed-taken : stages f v .s4 .short ≡ false → ltb (stages f v .s1 .A) (stages f v .s1 .D) ≡ false
+      → feedTaken v (stages f v) ≡ feedAsm1 f v
   unfolding feedAsm1
   feed-taken t u = rw (t, u)
 
@@ -185,12 +191,14 @@ feed-keeps f h c e =
     let a = feed-accepted f c e in
     let v = asm1 c in
     let s = stages f v in
-    let s2n = stage2-nitrogen f v (s .s1) in
-    let s4c = stage4-cod f v (s .P) (h .fxi-le) in
+    let xi = stage4-cod f v (s .P) (h .fxi-le) in
+    let rest = stage5-rest f v (s .s1) (s .s4) xi in
+    let pool = stage3-nitrogen f v (s .s2) (stage2-nitrogen f v (s .s1)) in
+    let inert = stage4-nitrogen f v (s .P) (a .covered) in
     rw (a .is)
     (record {
-      cod = omega (arith, stage1-cod nitrateRule v (a .burns), stage2-cod f v (s .s1), stage5-rest f v (s .s1) (s .s4) s4c, stage5-cod f v (s .s1) (s .s4));
-      tkn = omega (arith, stage3-nitrogen f v (s .s2) s2n, stage4-need f v (s .P), stage4-nitrogen f v (s .P) (a .covered), stage5-nitrogen f v (s .s1) (s .s4));
+      cod = omega (arith, stage1-cod nitrateRule v (a .burns), stage2-cod f v (s .s1), rest, stage5-cod f v (s .s1) (s .s4));
+      tkn = omega (arith, pool, stage4-need f v (s .P), inert, stage5-nitrogen f v (s .s1) (s .s4));
       oxygen = omega (arith, stage1-oxygen nitrateRule v);
       nitrate = omega (arith, stage1-nitrate nitrateRule v);
     })

@@ -1,6 +1,7 @@
 -- Laws of the return, and that an accepted return keeps COD, TKN, oxygen and nitrate. Assumes nothing.
 --
 --   taken-nitrogen      what is left and what was taken are what there was, where there was enough
+--   short-is            the test of a shortage, step by step
 --   low-is              a vector read from an array is as low as the array
 --   return-short, ..    the two outcomes of the conversion
 --   return-accepted     what an accepted conversion is
@@ -10,19 +11,26 @@ use mathlib.Core.List.{List}
 use mathlib.Core.Path.{_≡_, refl, sym, subst}
 use Prim.Native.Nat.{ℕ, _+_, _*_}
 use native.Mathlib.Omega.{arith}
+use lib.Dec.{ltb}
 use borrow.Author.Tests.{ltb-false}
 use Rattle.vectors.specs.declared.figures.Figures.{Figures}
 use Rattle.interface.specs.declared.returning.Returned.{Returned}
 use Rattle.vectors.specs.declared.columns.Digester as inDigester
 use Rattle.vectors.specs.Columns.{Digester, digester, digesterColumns, digesterCeilings, Below}
 use Rattle.vectors.specs.Units.{digesterCounts}
-use Rattle.interface.specs.Held.{LowDigester}
+use Rattle.interface.specs.Structs.{LowDigester}
 use Rattle.interface.specs.Return.{Nitrogen, nitrogenOf, taken, returnShort, returnRefused, returnTaken, returnDigester, returnOf}
 use Rattle.interface.specs.Laws.{ReturnLaw}
 
-pub taken-nitrogen : (q : ℕ) (n : Nitrogen) → returnShort q n ≡ false → taken q n .xnd + taken q n .snd + taken q n .snh + q ≡ n.xnd + n.snd + n.snh
+pub taken-nitrogen : (q : ℕ) (n : Nitrogen) → returnShort q n ≡ false
+    → taken q n .xnd + taken q n .snd + taken q n .snh + q ≡ n.xnd + n.snd + n.snh
 unfolding taken returnShort
 taken-nitrogen q n e = omega (arith, ltb-false (n.xnd + n.snd + n.snh) q e)
+
+pub short-is : (q : ℕ) (n : Nitrogen) {a b : ℕ} {short v : Bool} → a ≡ n.xnd + n.snd → b ≡ a + n.snh → short ≡ ltb b q → short ≡ v
+    → returnShort q n ≡ v
+unfolding returnShort
+short-is q n a b short v = cc
 
 pub low-is : {d : inDigester.Digester} (c : List ℕ) → digesterCounts d ≡ digester c → Below digesterCeilings c → LowDigester d
 low-is c e b = subst (λ w. Below digesterCeilings (digesterColumns w)) (sym e) b

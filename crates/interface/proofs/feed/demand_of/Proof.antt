@@ -2,20 +2,19 @@
 use Rattle.vectors.specs.Units.{asm1Counts}
 use Rattle.interface.specs.Feed.{nitrateRule}
 use Rattle.interface.proofs.Laws.Feed.{stage1-is}
-use mathlib.Core.Path.{refl}
 use native.Mathlib.Omega.{arith}
 use borrow.Author.Needs.{needs}
 use Rattle.interface.proofs.feed.demand_of.Statement.{statement}
 use Rattle.interface.proofs.feed.demand_of.Tie as tie
 
-add-t6 : tie.Need-add-t6
-add-t6 c = search needs
+plus-requires : tie.Need-plus-requires
+plus-requires c κs = search needs
 
-add-t7 : tie.Need-add-t7
-add-t7 c = search needs
+plus-requires-2 : tie.Need-plus-requires-2
+plus-requires-2 c κs = search needs
 
-add-t8 : tie.Need-add-t8
-add-t8 c = search needs
+plus-requires-3 : tie.Need-plus-requires-3
+plus-requires-3 c κs = search needs
 
 least-requires : tie.Need-least-requires
 least-requires c κs = search needs
@@ -30,29 +29,36 @@ least-requires-2 : tie.Need-least-requires-2
 least-requires-2 c κs = search needs
 
 nitrate-cod-requires : tie.Need-nitrate-cod-requires
-nitrate-cod-requires c κs = let low = c .before .before .before .before .before .before .before .pre in omega (arith, c .least2 .ensures)
+nitrate-cod-requires c κs =
+    let at-a = c .before .before .before .before in
+    omega (arith, at-a .before .before .before .pre, c .least2 .ensures)
 
-add-t6-2 : tie.Need-add-t6-2
-add-t6-2 c = let low = c .before .before .before .before .before .before .before .before .before .before .pre in omega (arith, c .before .before .nitrate-cod .ensures, c .before .before .before .before .before .before .least .ensures)
+plus-requires-4 : tie.Need-plus-requires-4
+plus-requires-4 c κs = search needs
 
 returns : tie.Need-returns
 returns c =
+    let at-r = c .before .before in
+    let at-o = at-r .before .before .before in
+    let at-a = at-o .before in
+    let v = at-a .before .before .before .args .v in
     let p =
-    stage1-is nitrateRule (asm1Counts (c .before .before .before .before .before .before .before .before .before .before .args .v)) refl (c .before .before .before .before .before .before .least .ensures .0) (c .before .before .before .before .before .less .ensures .0) (c .before .before .before .before .reducible .ensures)
-    (c .before .before .before .least2 .ensures .0) (c .before .before .nitrate-cod .ensures .0) refl in
+    stage1-is nitrateRule (asm1Counts v) (at-a .before .before .plus .ensures .0) (at-a .before .plus2 .ensures .0)
+    (at-a .plus3 .ensures .0) (at-o .least .ensures .0) (at-r .before .before .less .ensures .0)
+    (at-r .before .reducible .ensures) (at-r .least2 .ensures .0) (c .before .nitrate-cod .ensures .0) (c .plus4 .ensures .0) in
     record { A = p .0; o = p .1; r = p .2; D = p .3 }
 
 pub demand-of-spec : {M : Type 1} → statement M
 demand-of-spec =
     tie.close
     (tie.spec
-    add-t6
-    add-t7
-    add-t8
+    plus-requires
+    plus-requires-2
+    plus-requires-3
     least-requires
     less-requires
     reducible-requires
     least-requires-2
     nitrate-cod-requires
-    add-t6-2
+    plus-requires-4
     returns)

@@ -1,6 +1,5 @@
 -- `interface::feed::feed_asm1` meets its contract. Assumes nothing.
 use mathlib.Core.Path.{sym, _∙_}
-use borrow.Author.Tests.{lt-ltb, le-ltb}
 use Rattle.interface.proofs.Laws.Feed.{same-test, feed-short, feed-over, feed-taken}
 use borrow.Author.Needs.{needs}
 use Rattle.interface.proofs.feed.feed_asm1.Statement.{statement}
@@ -25,16 +24,24 @@ feed-refused-requires : tie.Need-feed-refused-requires
 feed-refused-requires c κs = search needs
 
 returns : tie.Need-returns
-returns c = c .feed-refused .ensures ∙ feed-short _ _ (sym (c .before .before .inerts-of .ensures .short) ∙ c .before .if1 .taken)
+returns c =
+    let at-inerts = c .before .before in
+    c .feed-refused .ensures ∙ feed-short _ _ (sym (at-inerts .inerts-of .ensures .short) ∙ c .before .if1 .taken)
+
+is-under-requires : tie.Need-is-under-requires
+is-under-requires c κs = search needs
 
 feed-refused-requires-2 : tie.Need-feed-refused-requires-2
 feed-refused-requires-2 c κs = search needs
 
 returns-2 : tie.Need-returns-2
 returns-2 c =
-    let d = c .before .before .before .before .before .before .before .before .demand-of .ensures in
+    let at-test = c .before .before in
+    let at-inerts = at-test .before .before in
+    let demand = at-inerts .before .before .before .before .demand-of .ensures in
     c .feed-refused2 .ensures
-    ∙ feed-over _ _ (sym (c .before .before .before .before .inerts-of .ensures .short) ∙ c .before .before .before .if1 .left) (sym (same-test (d .A) (d .D)) ∙ lt-ltb _ _ (c .before .if2 .taken))
+    ∙ feed-over _ _ (sym (at-inerts .inerts-of .ensures .short) ∙ at-test .before .if1 .left)
+    (sym (at-test .is-under .ensures ∙ same-test (demand .A) (demand .D)) ∙ c .before .if2 .taken)
 
 remains-of-requires : tie.Need-remains-of-requires
 remains-of-requires c κs = search needs
@@ -44,9 +51,13 @@ feed-taken-requires c κs = search needs
 
 returns-3 : tie.Need-returns-3
 returns-3 c =
-    let d = c .before .before .before .before .before .before .before .before .before .demand-of .ensures in
+    let at-else = c .before .before in
+    let at-test = at-else .before in
+    let at-inerts = at-test .before .before in
+    let demand = at-inerts .before .before .before .before .demand-of .ensures in
     c .feed-taken .ensures
-    ∙ feed-taken _ _ (sym (c .before .before .before .before .before .inerts-of .ensures .short) ∙ c .before .before .before .before .if1 .left) (sym (same-test (d .A) (d .D)) ∙ le-ltb _ _ (c .before .before .if2 .left))
+    ∙ feed-taken _ _ (sym (at-inerts .inerts-of .ensures .short) ∙ at-test .before .if1 .left)
+    (sym (at-test .is-under .ensures ∙ same-test (demand .A) (demand .D)) ∙ at-else .if2 .left)
 
 pub feed-asm1-spec : {M : Type 1} → statement M
 feed-asm1-spec =
@@ -59,6 +70,7 @@ feed-asm1-spec =
     inerts-of-requires
     feed-refused-requires
     returns
+    is-under-requires
     feed-refused-requires-2
     returns-2
     remains-of-requires

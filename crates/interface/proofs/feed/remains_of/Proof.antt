@@ -1,5 +1,4 @@
 -- `interface::feed::remains_of` meets its contract. Assumes nothing.
-use Prim.Native.Nat.{_+_, _-_}
 use Rattle.vectors.specs.Units.{asm1Counts}
 use Rattle.interface.proofs.Laws.Feed.{stage5-is}
 use native.Mathlib.Omega.{arith}
@@ -7,72 +6,91 @@ use borrow.Author.Needs.{needs}
 use Rattle.interface.proofs.feed.remains_of.Statement.{statement}
 use Rattle.interface.proofs.feed.remains_of.Tie as tie
 
-add-t9 : tie.Need-add-t9
-add-t9 c = search needs
+plus-requires : tie.Need-plus-requires
+plus-requires c κs = search needs
 
-add-t10 : tie.Need-add-t10
-add-t10 c = search needs
+plus-requires-2 : tie.Need-plus-requires-2
+plus-requires-2 c κs = search needs
 
-add-t11 : tie.Need-add-t11
-add-t11 c = search needs
+plus-requires-3 : tie.Need-plus-requires-3
+plus-requires-3 c κs = search needs
 
-add-t12 : tie.Need-add-t12
-add-t12 c = omega (arith, c .before .before .before .before .pre)
-
-sub-t13 : tie.Need-sub-t13
-sub-t13 c = search needs
-
-afforded-requires : tie.Need-afforded-requires
-afforded-requires c κs = search needs
+plus-requires-4 : tie.Need-plus-requires-4
+plus-requires-4 c κs = omega (arith, c .before .before .before .pre)
 
 less-requires : tie.Need-less-requires
 less-requires c κs = search needs
 
-add-share : tie.Need-add-share
-add-share c = omega (arith, c .before .before .before .before .before .before .before .before .pre)
-
-share-requires : tie.Need-share-requires
-share-requires c κs = omega (arith, c .before .before .before .before .before .before .before .before .pre, c .before .less .ensures .1)
+afforded-requires : tie.Need-afforded-requires
+afforded-requires c κs = search needs
 
 less-requires-2 : tie.Need-less-requires-2
 less-requires-2 c κs = search needs
 
-add-t13 : tie.Need-add-t13
-add-t13 c = omega (arith, c .before .before .before .before .before .before .before .before .before .before .before .pre)
+add-share : tie.Need-add-share
+add-share c =
+    let at-all = c .before .before .before in
+    omega (arith, at-all .before .before .before .before .before .pre .0 .0)
 
-nitrogen-requires : tie.Need-nitrogen-requires
-nitrogen-requires c κs = omega (arith, c .before .before .before .before .before .before .before .before .before .before .before .pre, c .before .before .before .before .before .afforded .ensures .1 .0)
+share-requires : tie.Need-share-requires
+share-requires c κs =
+    let at-rest = c .before in
+    let at-all = at-rest .before .before in
+    let permitted = at-all .before .before .before .before .before .pre .0 .0 in
+    omega (arith, permitted, at-rest .less2 .ensures .1, at-all .less .ensures .1, at-all .before .plus4 .ensures .1)
 
 less-requires-3 : tie.Need-less-requires-3
 less-requires-3 c κs = search needs
 
+plus-requires-5 : tie.Need-plus-requires-5
+plus-requires-5 c κs =
+    let at-all = c .before .before .before .before .before in
+    omega (arith, at-all .before .before .before .before .before .pre .1 .1)
+
+nitrogen-requires : tie.Need-nitrogen-requires
+nitrogen-requires c κs =
+    let at-xc = c .before .before .before .before .before in
+    let at-all = at-xc .before in
+    let permitted = at-all .before .before .before .before .before .pre .0 .0 in
+    omega (arith, permitted, at-xc .afforded .ensures .1 .0, at-all .less .ensures .1, at-all .before .plus4 .ensures .1)
+
+less-requires-4 : tie.Need-less-requires-4
+less-requires-4 c κs = search needs
+
 returns : tie.Need-returns
 returns c =
-    let v = c .before .before .before .before .before .before .before .before .before .before .before .before .before .args .v in
-    let left = c .before .before .before .before .before .before .before .before .before .before .before .before .before .pre .1 .0 in
-    let inerts = c .before .before .before .before .before .before .before .before .before .before .before .before .before .pre .1 .1 in
+    let at-sum = c .before .before in
+    let at-xch = at-sum .before .before in
+    let at-rest = at-xch .before .before in
+    let at-xc = at-rest .before in
+    let at-all = at-xc .before in
+    let at-xp = at-all .before in
+    let at-xba = at-xp .before .before in
+    let start = at-xba .before .before in
+    let left = start .pre .1 .0 in
+    let inerts = start .pre .1 .1 in
     let p =
-    stage5-is (c .before .before .before .before .before .before .before .before .before .before .before .before .before .args .f) (asm1Counts v) _ _
-    (λ i. left .xs i + left .xbh i + left .xba i + v .xi .0 + v .xp .0 - inerts .xi i)
-    (inerts .P') (inerts .H') (c .before .before .before .before .before .before .before .afforded .ensures .0) (c .before .before .before .before .before .before .less .ensures .0) (c .before .before .before .before .share .ensures .0) (c .before .before .before .less2 .ensures .0)
-    (c .before .nitrogen .ensures .0) (c .less3 .ensures .0) in
+    stage5-is (start .args .f) (asm1Counts (start .args .v)) _ _ (left .xs) (left .xbh) (left .xba) (inerts .xi) (inerts .P') (inerts .H')
+    (at-xba .before .plus .ensures .0) (at-xba .plus2 .ensures .0) (at-xp .before .plus3 .ensures .0) (at-xp .plus4 .ensures .0)
+    (at-all .less .ensures .0) (at-xc .afforded .ensures .0) (at-rest .less2 .ensures .0) (at-xch .share .ensures .0)
+    (at-sum .before .less3 .ensures .0) (at-sum .plus5 .ensures .0) (c .before .nitrogen .ensures .0) (c .less4 .ensures .0) in
     record { xc = p .0; xch = p .1; xli = p .2; sin = p .3 }
 
 pub remains-of-spec : {M : Type 1} → statement M
 remains-of-spec =
     tie.close
     (tie.spec
-    add-t9
-    add-t10
-    add-t11
-    add-t12
-    sub-t13
-    afforded-requires
+    plus-requires
+    plus-requires-2
+    plus-requires-3
+    plus-requires-4
     less-requires
+    afforded-requires
+    less-requires-2
     add-share
     share-requires
-    less-requires-2
-    add-t13
-    nitrogen-requires
     less-requires-3
+    plus-requires-5
+    nitrogen-requires
+    less-requires-4
     returns)

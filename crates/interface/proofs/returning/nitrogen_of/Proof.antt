@@ -1,7 +1,8 @@
 -- `interface::returning::nitrogen_of` meets its contract. Assumes nothing.
 use native.Mathlib.Omega.{arith}
 use mathlib.Core.Path.{ap, _∙_}
-use Prim.Native.Nat.{ℕ, _+_, _*_}
+use Prim.Native.Nat.{ℕ, _+_, _*_, _≤_}
+use Rattle.vectors.proofs.Laws.Units.{plus}
 use borrow.Author.Needs.{needs}
 use Rattle.interface.proofs.returning.nitrogen_of.Statement.{statement}
 use Rattle.interface.proofs.returning.nitrogen_of.Tie as tie
@@ -27,30 +28,60 @@ nitrogen-requires-5 c κs = search needs
 nitrogen-requires-6 : tie.Need-nitrogen-requires-6
 nitrogen-requires-6 c κs = search needs
 
-add-t11 : tie.Need-add-t11
-add-t11 c = omega (arith, c .before .before .before .before .before .before .before .before .before .before .pre, c .before .before .before .before .before .before .before .before .before .nitrogen .ensures .1, c .before .before .before .before .before .before .before .before .nitrogen2 .ensures .1, c .before .before .before .before .before .before .nitrogen3 .ensures .1, c .before .before .before .before .before .nitrogen4 .ensures .1, c .before .before .before .before .before .before .before .degraders-of .ensures .1)
+-- the terms of xnd, snd and snh together
+low : (c : tie.After-sin)
+    → let at-soluble = c .before in
+    let at-inert = at-soluble .before .before in
+    let at-protein = at-inert .before .before .before in
+    at-protein .before .nitrogen .result .0 + at-protein .nitrogen2 .result .0 + at-inert .before .nitrogen3 .result .0
+    + at-inert .nitrogen4 .result .0 + (at-soluble .before .nitrogen5 .result .0 + at-soluble .nitrogen6 .result .0)
+    + at-protein .before .before .args .d .sin .0
+    ≤ 130_000_000_000_000_000
+low c =
+    let at-soluble = c .before in
+    let at-inert = at-soluble .before .before in
+    let at-degraders = at-inert .before .before in
+    let at-composites = at-degraders .before .before in
+    let vector = at-composites .before .pre .1 in
+    let composites = at-composites .nitrogen .ensures .1 in
+    let protein = at-degraders .before .nitrogen2 .ensures .1 in
+    let degraders = at-degraders .degraders-of .ensures .1 in
+    let biomass = at-inert .before .nitrogen3 .ensures .1 in
+    let inert = at-inert .nitrogen4 .ensures .1 in
+    let amino = at-soluble .before .nitrogen5 .ensures .1 in
+    omega (arith, vector, composites, protein, degraders, biomass, inert, amino, at-soluble .nitrogen6 .ensures .1)
 
-add-t12 : tie.Need-add-t12
-add-t12 c = omega (arith, c .before .before .before .before .before .before .before .before .before .before .before .pre, c .before .before .before .before .before .before .before .before .before .before .nitrogen .ensures .1, c .before .before .before .before .before .before .before .before .before .nitrogen2 .ensures .1, c .before .before .before .before .before .before .before .nitrogen3 .ensures .1, c .before .before .before .before .before .before .nitrogen4 .ensures .1, c .before .before .before .before .before .before .before .before .degraders-of .ensures .1)
+plus-requires : tie.Need-plus-requires
+plus-requires c κs = omega (arith, low c)
 
-add-t13 : tie.Need-add-t13
-add-t13 c = omega (arith, c .before .before .before .before .before .before .before .before .before .before .before .before .pre, c .before .before .before .before .before .before .before .before .before .before .before .nitrogen .ensures .1, c .before .before .before .before .before .before .before .before .before .before .nitrogen2 .ensures .1, c .before .before .before .before .before .before .before .before .nitrogen3 .ensures .1, c .before .before .before .before .before .before .before .nitrogen4 .ensures .1, c .before .before .before .before .before .before .before .before .before .degraders-of .ensures .1)
+plus-requires-2 : tie.Need-plus-requires-2
+plus-requires-2 c κs = omega (arith, low (c .before), c .plus .ensures .0)
 
-add-t15 : tie.Need-add-t15
-add-t15 c = omega (arith, c .before .before .before .before .before .before .before .before .before .before .before .before .before .before .pre, c .before .before .before .before .before .before .before .before .nitrogen5 .ensures .1, c .before .before .before .before .before .before .before .nitrogen6 .ensures .1)
+plus-requires-3 : tie.Need-plus-requires-3
+plus-requires-3 c κs = omega (arith, low (c .before .before), c .before .plus .ensures .0, c .plus2 .ensures .0)
+
+plus-requires-4 : tie.Need-plus-requires-4
+plus-requires-4 c κs = omega (arith, low (c .before .before .before))
 
 returns : tie.Need-returns
 returns c =
-    let f = c .before .before .before .before .before .before .before .before .before .before .before .before .before .before .args .f in
-    let d = c .before .before .before .before .before .before .before .before .before .before .before .before .before .before .args .d in
-    let biomass = c .before .before .before .before .before .before .before .before .before .before .nitrogen3 .ensures .0 ∙ ap (λ (n : ℕ). f .nbac * n) (c .before .before .before .before .before .before .before .before .before .before .before .degraders-of .ensures .0) in (
-      λ i.
-          record {
-            xnd = c .before .before .before .before .before .before .before .before .before .before .before .before .before .nitrogen .ensures .0 i + c .before .before .before .before .before .before .before .before .before .before .before .before .nitrogen2 .ensures .0 i + biomass i + c .before .before .before .before .before .before .before .before .before .nitrogen4 .ensures .0 i;
-            snd = c .before .before .before .before .before .before .before .before .nitrogen5 .ensures .0 i + c .before .before .before .before .before .before .before .nitrogen6 .ensures .0 i;
-            snh = d .sin .0;
-          },
-      omega (arith, c .before .before .before .before .before .before .before .before .before .before .before .before .before .before .pre, c .before .before .before .before .before .before .before .before .nitrogen5 .ensures .1, c .before .before .before .before .before .before .before .nitrogen6 .ensures .1, c .before .before .before .before .before .before .before .before .before .before .before .before .before .nitrogen .ensures .1, c .before .before .before .before .before .before .before .before .before .before .before .before .nitrogen2 .ensures .1, c .before .before .before .before .before .before .before .before .before .before .nitrogen3 .ensures .1, c .before .before .before .before .before .before .before .before .before .nitrogen4 .ensures .1, c .before .before .before .before .before .before .before .before .before .before .before .degraders-of .ensures .1),
+    let at-xnd = c .before in
+    let at-terms = at-xnd .before .before .before in
+    let at-soluble = at-terms .before in
+    let at-inert = at-soluble .before .before in
+    let at-degraders = at-inert .before .before in
+    let at-composites = at-degraders .before .before in
+    let start = at-composites .before in
+    let biomass = ap (λ (n : ℕ). start .args .f .nbac * n) (at-degraders .degraders-of .ensures .0) in
+    let two = at-xnd .before .before .plus .ensures .0 in
+    let three = at-xnd .before .plus2 .ensures .0 in
+    let xnd = at-xnd .plus3 .ensures .0 in
+    let snd = c .plus4 .ensures .0 in
+    let two-is = plus two (at-composites .nitrogen .ensures .0) (at-degraders .before .nitrogen2 .ensures .0) in
+    let xnd-is = plus xnd (plus three two-is (at-inert .before .nitrogen3 .ensures .0 ∙ biomass)) (at-inert .nitrogen4 .ensures .0) in
+    let snd-is = plus snd (at-soluble .before .nitrogen5 .ensures .0) (at-soluble .nitrogen6 .ensures .0) in (
+      λ i. record { xnd = xnd-is i; snd = snd-is i; snh = start .args .d .sin .0 },
+      omega (arith, low at-terms, two, three, xnd, snd),
     )
 
 pub nitrogen-of-spec : {M : Type 1} → statement M
@@ -64,8 +95,8 @@ nitrogen-of-spec =
     nitrogen-requires-4
     nitrogen-requires-5
     nitrogen-requires-6
-    add-t11
-    add-t12
-    add-t13
-    add-t15
+    plus-requires
+    plus-requires-2
+    plus-requires-3
+    plus-requires-4
     returns)

@@ -4,24 +4,33 @@ use borrow.Author.Needs.{needs}
 use Rattle.interface.proofs.returning.particulate_of.Statement.{statement}
 use Rattle.interface.proofs.returning.particulate_of.Tie as tie
 
-add-t2 : tie.Need-add-t2
-add-t2 c = omega (arith, c .before .pre)
+plus-requires : tie.Need-plus-requires
+plus-requires c κs = search needs
 
-add-t3 : tie.Need-add-t3
-add-t3 c = omega (arith, c .before .before .pre)
+plus-requires-2 : tie.Need-plus-requires-2
+plus-requires-2 c κs = search needs
 
-add-t4 : tie.Need-add-t4
-add-t4 c = omega (arith, c .before .before .before .pre)
+plus-requires-3 : tie.Need-plus-requires-3
+plus-requires-3 c κs = omega (arith, c .before .before .pre)
 
 degraders-of-requires : tie.Need-degraders-of-requires
 degraders-of-requires c κs = search needs
 
-add-t6 : tie.Need-add-t6
-add-t6 c = omega (arith, c .before .before .before .before .before .pre, c .before .degraders-of .ensures .1)
+plus-requires-4 : tie.Need-plus-requires-4
+plus-requires-4 c κs =
+    let start = c .before .before .before .before in
+    omega (arith, start .pre, c .degraders-of .ensures .1)
 
 returns : tie.Need-returns
 returns c = search needs
 
 pub particulate-of-spec : {M : Type 1} → statement M
 particulate-of-spec =
-    tie.close (tie.spec add-t2 add-t3 add-t4 degraders-of-requires add-t6 returns)
+    tie.close
+    (tie.spec
+    plus-requires
+    plus-requires-2
+    plus-requires-3
+    degraders-of-requires
+    plus-requires-4
+    returns)

@@ -4,26 +4,35 @@ use borrow.Author.Needs.{needs}
 use Rattle.interface.proofs.returning.soluble_of.Statement.{statement}
 use Rattle.interface.proofs.returning.soluble_of.Tie as tie
 
-add-t2 : tie.Need-add-t2
-add-t2 c = search needs
+plus-requires : tie.Need-plus-requires
+plus-requires c κs = search needs
 
-add-t3 : tie.Need-add-t3
-add-t3 c = search needs
+plus-requires-2 : tie.Need-plus-requires-2
+plus-requires-2 c κs = search needs
 
-add-t4 : tie.Need-add-t4
-add-t4 c = search needs
+plus-requires-3 : tie.Need-plus-requires-3
+plus-requires-3 c κs = search needs
 
-add-t5 : tie.Need-add-t5
-add-t5 c = search needs
+plus-requires-4 : tie.Need-plus-requires-4
+plus-requires-4 c κs = search needs
 
-add-t6 : tie.Need-add-t6
-add-t6 c = omega (arith, c .before .before .before .before .before .pre)
+plus-requires-5 : tie.Need-plus-requires-5
+plus-requires-5 c κs = search needs
 
-add-t7 : tie.Need-add-t7
-add-t7 c = omega (arith, c .before .before .before .before .before .before .pre)
+plus-requires-6 : tie.Need-plus-requires-6
+plus-requires-6 c κs = omega (arith, c .before .before .before .before .before .pre)
 
 returns : tie.Need-returns
 returns c = search needs
 
 pub soluble-of-spec : {M : Type 1} → statement M
-soluble-of-spec = tie.close (tie.spec add-t2 add-t3 add-t4 add-t5 add-t6 add-t7 returns)
+soluble-of-spec =
+    tie.close
+    (tie.spec
+    plus-requires
+    plus-requires-2
+    plus-requires-3
+    plus-requires-4
+    plus-requires-5
+    plus-requires-6
+    returns)

@@ -20,7 +20,7 @@ refusal-requires : tie.Need-refusal-requires
 refusal-requires c κs = search needs
 
 returns : tie.Need-returns
-returns c = c .answer-request .ensures ∙ ap (λ (x : Form). askedOutcome house (c .before .before .before .before .before .before .args .plant) x (c .before .before .before .before .before .before .args .l)) (sym (c .before .before .form .given .1))
+returns c = c .answer-request .ensures .0 ∙ ap (λ (x : Form). askedOutcome house (c .before .before .before .before .before .before .args .plant) x (c .before .before .before .before .before .before .args .l)) (sym (c .before .before .form .given .1))
 
 returns-2 : tie.Need-returns-2
 returns-2 c = c .refusal .ensures ∙ ap (λ (x : Form). askedOutcome house (c .before .before .before .before .before .args .plant) x (c .before .before .before .before .before .args .l)) (sym (c .before .enum-told .given .1))

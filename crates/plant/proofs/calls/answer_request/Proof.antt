@@ -1,7 +1,13 @@
 -- `plant::calls::answer_request` meets its contract. Assumes nothing.
-use mathlib.Core.Path.{sym, ap, _∙_}
+use mathlib.Core.Path.{_≡_, sym, ap, _∙_}
 use Rattle.vectors.specs.Figures.{house}
-use Rattle.plant.specs.Calls.{stepBy}
+use Rattle.plant.specs.declared.record.Plant.{Plant}
+use Rattle.plant.specs.declared.answer.Call.{Call}
+use Rattle.plant.specs.declared.answer.Request.{Request}
+use Rattle.plant.specs.declared.answer.Outcome.{Outcome}
+use Rattle.plant.specs.Answer.{told}
+use Rattle.plant.specs.Calls.{stepBy, step, toldOf}
+use Rattle.plant.proofs.Laws.Calls.{answered}
 use borrow.Author.Needs.{needs}
 use Rattle.plant.proofs.calls.answer_request.Statement.{statement}
 use Rattle.plant.proofs.calls.answer_request.Tie as tie
@@ -36,30 +42,25 @@ enum-known-call-4 c = search needs
 release-requires : tie.Need-release-requires
 release-requires c κs = search needs
 
+-- each arm's outcome is that of the request whose call it is
+by-call : (p : Plant) (r : Request) (w : Call) {o : Outcome} → r .call ≡ w → o ≡ stepBy house p w (r .sludge) (r .digester)
+    → (o ≡ step house p r) × (told (o .answer) ≡ toldOf house p r)
+by-call p r w e h = answered house p r (h ∙ ap (λ x. stepBy house p x (r .sludge) (r .digester)) (sym e))
+
 returns : tie.Need-returns
-returns c =
-    let r = c .before .before .before .before .before .args .request in
-    c .receive .ensures ∙ ap (λ w. stepBy house (c .before .before .before .before .before .args .plant) w (r .sludge) (r .digester)) (sym (c .before .enum-told .given .1))
+returns c = by-call _ _ _ (c .before .enum-told .given .1) (c .receive .ensures .0)
 
 returns-2 : tie.Need-returns-2
-returns-2 c =
-    let r = c .before .before .before .before .before .before .args .request in
-    c .feed .ensures ∙ ap (λ w. stepBy house (c .before .before .before .before .before .before .args .plant) w (r .sludge) (r .digester)) (sym (c .before .before .call .given .1))
+returns-2 c = by-call _ _ _ (c .before .before .call .given .1) (c .feed .ensures .0)
 
 returns-3 : tie.Need-returns-3
-returns-3 c =
-    let r = c .before .before .before .before .before .before .args .request in
-    c .settle .ensures ∙ ap (λ w. stepBy house (c .before .before .before .before .before .before .args .plant) w (r .sludge) (r .digester)) (sym (c .before .before .call2 .given .1))
+returns-3 c = by-call _ _ _ (c .before .before .call2 .given .1) (c .settle .ensures .0)
 
 returns-4 : tie.Need-returns-4
-returns-4 c =
-    let r = c .before .before .before .before .before .before .args .request in
-    c .give-back .ensures ∙ ap (λ w. stepBy house (c .before .before .before .before .before .before .args .plant) w (r .sludge) (r .digester)) (sym (c .before .before .call3 .given .1))
+returns-4 c = by-call _ _ _ (c .before .before .call3 .given .1) (c .give-back .ensures .0)
 
 returns-5 : tie.Need-returns-5
-returns-5 c =
-    let r = c .before .before .before .before .before .before .args .request in
-    c .release .ensures ∙ ap (λ w. stepBy house (c .before .before .before .before .before .before .args .plant) w (r .sludge) (r .digester)) (sym (c .before .before .call4 .given .1))
+returns-5 c = by-call _ _ _ (c .before .before .call4 .given .1) (c .release .ensures .0)
 
 pub answer-request-spec : {M : Type 1} → statement M
 answer-request-spec =

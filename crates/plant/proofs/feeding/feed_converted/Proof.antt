@@ -11,22 +11,33 @@ digester-sum-within-requires c κs = search needs
 digester-sum-requires : tie.Need-digester-sum-requires
 digester-sum-requires c κs = flag (c .before .digester-sum-within .ensures) (c .if2 .taken)
 
-told-requires : tie.Need-told-requires
-told-requires c κs = search needs
+fed-answer-requires : tie.Need-fed-answer-requires
+fed-answer-requires c κs = search needs
 
 returns : tie.Need-returns
 returns c =
-    let p = c .before .before .before .before .before .before .before .before .args .plant in
-    pass-number _ _ _ _ (c .before .before .before .before .before .before .before .if1 .taken)
-    (pass _ _ _ _ _ (flag (c .before .before .before .before .digester-sum-within .ensures) (c .before .before .before .if2 .taken))
-    (none _ _ (λ i. record { answer = c .told .ensures i; vector = noColumns; plant = record { sludge = c .before .before .before .before .before .before .before .before .args .rest; digester = c .before .before .digester-sum .ensures i; reject = p .reject } })))
+    let at-fits = c .before .before .before in
+    let at-converted = at-fits .before .before .before .before in
+    let a = at-converted .before .args in
+    pass-number _ _ _ _ (at-converted .if1 .taken)
+    (pass _ _ _ _ _ (flag (at-fits .before .digester-sum-within .ensures) (at-fits .if2 .taken))
+    (none _ _
+    (λ i.
+    record {
+      answer = c .fed-answer .ensures i;
+      vector = noColumns;
+      plant = record { sludge = a .rest; digester = c .before .before .digester-sum .ensures i; reject = a .plant .reject };
+    })))
 
 refusal-requires : tie.Need-refusal-requires
 refusal-requires c κs = search needs
 
 returns-2 : tie.Need-returns-2
 returns-2 c =
-    pass-number _ _ _ _ (c .before .before .before .before .before .if1 .taken) (stop _ _ _ 10 _ tt (flag (c .before .before .digester-sum-within .ensures) (c .before .if2 .left)) (c .refusal .ensures))
+    let at-fits = c .before in
+    let at-converted = at-fits .before .before .before .before in
+    pass-number _ _ _ _ (at-converted .if1 .taken)
+    (stop _ _ _ 10 _ tt (flag (at-fits .before .digester-sum-within .ensures) (at-fits .if2 .left)) (c .refusal .ensures))
 
 refusal-requires-2 : tie.Need-refusal-requires-2
 refusal-requires-2 c κs = search needs
@@ -40,7 +51,7 @@ feed-converted-spec =
     (tie.spec
     digester-sum-within-requires
     digester-sum-requires
-    told-requires
+    fed-answer-requires
     returns
     refusal-requires
     returns-2

@@ -1,7 +1,9 @@
 -- `plant::receiving::receive` meets its contract. Assumes nothing.
+use Rattle.vectors.specs.Figures.{house}
 use Rattle.plant.specs.declared.answer.Answer.the-variants.{Received}
 use Rattle.plant.specs.Record.{noColumns}
 use Rattle.plant.specs.Calls.{receive}
+use Rattle.plant.proofs.Laws.Calls.{answered}
 use Rattle.plant.proofs.Laws.Decision.{stop, pass, none, flag}
 use borrow.Author.Needs.{needs}
 use Rattle.plant.proofs.receiving.receive.Statement.{statement}
@@ -22,12 +24,22 @@ asm1-sum-requires c κs = flag (c .before .asm1-sum-within .ensures) (c .if3 .ta
 returns : tie.Need-returns
 unfolding receive
 returns c =
-    let p = c .before .before .before .before .before .before .before .before .before .before .args .plant in
-    pass _ _ _ _ _ (flag (c .before .before .before .before .before .before .before .before .before .record-within .ensures) (c .before .before .before .before .before .before .before .before .if1 .taken))
-    (pass _ _ _ _ _ (flag (c .before .before .before .before .before .before .before .asm1-within .ensures) (c .before .before .before .before .before .before .if2 .taken))
-    (pass _ _ _ _ _ (flag (c .before .before .before .before .asm1-sum-within .ensures) (c .before .before .before .if3 .taken))
+    let at-sum = c .before .before in
+    let at-fits = at-sum .before in
+    let at-vector = at-fits .before .before .before in
+    let at-record = at-vector .before .before in
+    let p = at-record .before .before .args .plant in
+    answered house p _
+    (pass _ _ _ _ _ (flag (at-record .before .record-within .ensures) (at-record .if1 .taken))
+    (pass _ _ _ _ _ (flag (at-vector .before .asm1-within .ensures) (at-vector .if2 .taken))
+    (pass _ _ _ _ _ (flag (at-fits .before .asm1-sum-within .ensures) (at-fits .if3 .taken))
     (none _ _
-    (λ i. record { answer = Received; vector = noColumns; plant = record { sludge = c .before .before .asm1-sum .ensures i; digester = p .digester; reject = p .reject } }))))
+    (λ i.
+    record {
+      answer = Received;
+      vector = noColumns;
+      plant = record { sludge = at-sum .asm1-sum .ensures i; digester = p .digester; reject = p .reject };
+    })))))
 
 refusal-requires : tie.Need-refusal-requires
 refusal-requires c κs = search needs
@@ -35,9 +47,13 @@ refusal-requires c κs = search needs
 returns-2 : tie.Need-returns-2
 unfolding receive
 returns-2 c =
-    pass _ _ _ _ _ (flag (c .before .before .before .before .before .before .before .record-within .ensures) (c .before .before .before .before .before .before .if1 .taken))
-    (pass _ _ _ _ _ (flag (c .before .before .before .before .before .asm1-within .ensures) (c .before .before .before .before .if2 .taken))
-    (stop _ _ _ 10 _ tt (flag (c .before .before .asm1-sum-within .ensures) (c .before .if3 .left)) (c .refusal .ensures)))
+    let at-fits = c .before in
+    let at-vector = at-fits .before .before .before in
+    let at-record = at-vector .before .before in
+    answered house _ _
+    (pass _ _ _ _ _ (flag (at-record .before .record-within .ensures) (at-record .if1 .taken))
+    (pass _ _ _ _ _ (flag (at-vector .before .asm1-within .ensures) (at-vector .if2 .taken))
+    (stop _ _ _ 10 _ tt (flag (at-fits .before .asm1-sum-within .ensures) (at-fits .if3 .left)) (c .refusal .ensures))))
 
 refusal-requires-2 : tie.Need-refusal-requires-2
 refusal-requires-2 c κs = search needs
@@ -45,15 +61,19 @@ refusal-requires-2 c κs = search needs
 returns-3 : tie.Need-returns-3
 unfolding receive
 returns-3 c =
-    pass _ _ _ _ _ (flag (c .before .before .before .before .record-within .ensures) (c .before .before .before .if1 .taken))
-    (stop _ _ _ 3 _ tt (flag (c .before .before .asm1-within .ensures) (c .before .if2 .left)) (c .refusal2 .ensures))
+    let at-vector = c .before in
+    let at-record = at-vector .before .before in
+    answered house _ _
+    (pass _ _ _ _ _ (flag (at-record .before .record-within .ensures) (at-record .if1 .taken))
+    (stop _ _ _ 3 _ tt (flag (at-vector .before .asm1-within .ensures) (at-vector .if2 .left)) (c .refusal2 .ensures)))
 
 refusal-requires-3 : tie.Need-refusal-requires-3
 refusal-requires-3 c κs = search needs
 
 returns-4 : tie.Need-returns-4
 unfolding receive
-returns-4 c = stop _ _ _ 1 _ tt (flag (c .before .before .record-within .ensures) (c .before .if1 .left)) (c .refusal3 .ensures)
+returns-4 c =
+    answered house _ _ (stop _ _ _ 1 _ tt (flag (c .before .before .record-within .ensures) (c .before .if1 .left)) (c .refusal3 .ensures))
 
 pub receive-spec : {M : Type 1} → statement M
 receive-spec =

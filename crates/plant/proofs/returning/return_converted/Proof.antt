@@ -14,17 +14,28 @@ asm1-sum-requires c κs = flag (c .before .asm1-sum-within .ensures) (c .if2 .ta
 
 returns : tie.Need-returns
 returns c =
-    let p = c .before .before .before .before .before .before .before .before .args .plant in
-    pass-number _ _ _ _ (c .before .before .before .before .before .before .before .if1 .taken)
-    (pass _ _ _ _ _ (flag (c .before .before .before .before .asm1-sum-within .ensures) (c .before .before .before .if2 .taken))
-    (none _ _ (λ i. record { answer = Returned (c .before .before .before .before .before .before .before .before .args .o .stripped); vector = noColumns; plant = record { sludge = p .sludge; digester = c .before .before .before .before .before .before .before .before .args .rest; reject = c .before .before .asm1-sum .ensures i } })))
+    let at-fits = c .before .before .before in
+    let at-converted = at-fits .before .before .before .before in
+    let a = at-converted .before .args in
+    pass-number _ _ _ _ (at-converted .if1 .taken)
+    (pass _ _ _ _ _ (flag (at-fits .before .asm1-sum-within .ensures) (at-fits .if2 .taken))
+    (none _ _
+    (λ i.
+    record {
+      answer = Returned (a .o .stripped);
+      vector = noColumns;
+      plant = record { sludge = a .plant .sludge; digester = a .rest; reject = c .before .before .asm1-sum .ensures i };
+    })))
 
 refusal-requires : tie.Need-refusal-requires
 refusal-requires c κs = search needs
 
 returns-2 : tie.Need-returns-2
 returns-2 c =
-    pass-number _ _ _ _ (c .before .before .before .before .before .if1 .taken) (stop _ _ _ 10 _ tt (flag (c .before .before .asm1-sum-within .ensures) (c .before .if2 .left)) (c .refusal .ensures))
+    let at-fits = c .before in
+    let at-converted = at-fits .before .before .before .before in
+    pass-number _ _ _ _ (at-converted .if1 .taken)
+    (stop _ _ _ 10 _ tt (flag (at-fits .before .asm1-sum-within .ensures) (at-fits .if2 .left)) (c .refusal .ensures))
 
 refusal-requires-2 : tie.Need-refusal-requires-2
 refusal-requires-2 c κs = search needs

@@ -2,6 +2,7 @@
 --
 --   Low, LowDigester                                        every column of the vector is at most its ceiling
 --   Demands, Leaves, AcidsHeld, InertsHeld, RemainsHeld     the struct has the numbers of its stage
+--   StagesHeld                                              the structs have the numbers of one vector's stages
 --   nitrogenCounts                                          the numbers of the return's nitrogen
 use mathlib.Core.Path.{_≡_}
 use Prim.Native.Nat.{ℕ, _≤_}
