@@ -7,17 +7,6 @@ use plant::Answer;
 pub fn four_of(a: Answer) -> [u64; 4]
     ensures { λ r. ⌜ r ≡ fourOf a ⌝ }
 {
-    match a {
-        Answer::Received => [0, 0, 0, 0],
-        Answer::Fed {
-            burnt,
-            oxygen,
-            nitrate,
-            warn,
-        } => [burnt.0, oxygen.0, nitrate.0, warn],
-        Answer::Settled => [0, 0, 0, 0],
-        Answer::Returned { stripped } => [0, 0, 0, 0],
-        Answer::Released => [0, 0, 0, 0],
-        Answer::Refused(n) => [0, 0, 0, 0],
-    }
+    let t = plant::told_of(a);
+    [t.burnt, t.oxygen, t.nitrate, t.warn]
 }

@@ -1,7 +1,7 @@
 -- Answers: document 01, "The plant record and its five calls" (what each call tells) and "What the link sends away".
 --
---   Answer, Outcome       the enum and the struct of the code
---   Told, told            the refusal's number of document 01, or 0, and the values told, for each case of the enum: a refusal tells zeros
+--   Answer, Outcome, Told the enum and the structs of the code
+--   told                  the refusal's number of document 01, or 0, and the values told, for each case of the enum: a refusal tells zeros
 --   refused               the outcome of a refusal: the record that was handed in, and zeros
 --   unless, first         a test that gives its number where it fails; the first number that is given, or 0
 --   decide                the outcome, by that number
@@ -13,15 +13,8 @@ use Rattle.plant.specs.declared.record.Plant.{Plant}
 use Rattle.plant.specs.declared.answer.Answer.{Answer}
 use Rattle.plant.specs.declared.answer.Answer.the-variants.{Received, Fed, Settled, Returned, Released, Refused}
 use Rattle.plant.specs.declared.answer.Outcome.{Outcome}
+use Rattle.plant.specs.declared.answer.Told.{Told}
 use Rattle.plant.specs.Record.{noColumns}
-
-pub record Told : Type 0 where
-  pub number : ℕ
-  pub burnt : ℕ
-  pub oxygen : ℕ
-  pub nitrate : ℕ
-  pub warn : ℕ
-  pub stripped : ℕ
 
 abbrev pub nothing : ℕ → Told
 nothing n = record { number = n; burnt = 0; oxygen = 0; nitrate = 0; warn = 0; stripped = 0 }

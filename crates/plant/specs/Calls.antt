@@ -31,8 +31,9 @@ use Rattle.plant.specs.declared.answer.Call.{Call}
 use Rattle.plant.specs.declared.answer.Call.the-variants as call
 use Rattle.plant.specs.declared.answer.Request.{Request}
 use Rattle.plant.specs.declared.answer.Outcome.{Outcome}
+use Rattle.plant.specs.declared.answer.Told.{Told}
 use Rattle.plant.specs.Record.{noColumns, recordWithin, thousandths}
-use Rattle.plant.specs.Answer.{Told, nothing, told, unless, first, decide}
+use Rattle.plant.specs.Answer.{nothing, told, unless, first, decide}
 
 -- Receive adds an ASM1 vector to the sludge tank.
 abbrev pub receiveTests : Plant → List ℕ → List ℕ

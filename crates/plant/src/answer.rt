@@ -1,6 +1,6 @@
 // A call, what it answers, and the outcome.
 ghost use mathlib.Core.Path.{_≡_};
-ghost use Rattle.plant.specs.Answer.{refused, told};
+ghost use Rattle.plant.specs.Answer.{refused, nothing, told};
 use crate::record::Plant;
 use vectors::Milligrams;
 use vectors::Ticks;
@@ -56,21 +56,67 @@ pub fn refusal(p: Plant, n: u64) -> Outcome
     }
 }
 
-// The refusal's number, or 0.
-pub fn refusal_of(a: Answer) -> u64
-    ensures { λ r. ⌜ r ≡ told a .number ⌝ }
+// What an answer tells, as numbers: the refusal's, or 0, and the values; those that it does not tell are 0.
+pub struct Told {
+    pub number: u64,
+    pub burnt: u64,
+    pub oxygen: u64,
+    pub nitrate: u64,
+    pub warn: u64,
+    pub stripped: u64,
+}
+
+// The numbers of an answer.
+pub fn told_of(a: Answer) -> Told
+    ensures { λ r. ⌜ r ≡ told a ⌝ }
 {
     match a {
-        Answer::Received => 0,
+        Answer::Received => nothing_but(0),
         Answer::Fed {
             burnt,
             oxygen,
             nitrate,
             warn,
-        } => 0,
-        Answer::Settled => 0,
-        Answer::Returned { stripped } => 0,
-        Answer::Released => 0,
-        Answer::Refused(n) => n,
+        } => Told {
+            number: 0,
+            burnt: burnt.0,
+            oxygen: oxygen.0,
+            nitrate: nitrate.0,
+            warn,
+            stripped: 0,
+        },
+        Answer::Settled => nothing_but(0),
+        Answer::Returned { stripped } => Told {
+            number: 0,
+            burnt: 0,
+            oxygen: 0,
+            nitrate: 0,
+            warn: 0,
+            stripped: stripped.0,
+        },
+        Answer::Released => nothing_but(0),
+        Answer::Refused(n) => nothing_but(n),
     }
+}
+
+// A refusal's number, or 0, and no value.
+fn nothing_but(n: u64) -> Told
+    ensures { λ r. ⌜ r ≡ nothing n ⌝ }
+{
+    Told {
+        number: n,
+        burnt: 0,
+        oxygen: 0,
+        nitrate: 0,
+        warn: 0,
+        stripped: 0,
+    }
+}
+
+// The refusal's number, or 0.
+pub fn refusal_of(a: Answer) -> u64
+    ensures { λ r. ⌜ r ≡ told a .number ⌝ }
+{
+    let t = told_of(a);
+    t.number
 }

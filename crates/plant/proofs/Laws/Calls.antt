@@ -16,7 +16,8 @@ use Rattle.plant.specs.declared.answer.Call.{Call}
 use Rattle.plant.specs.declared.answer.Call.the-variants as call
 use Rattle.plant.specs.declared.answer.Request.{Request}
 use Rattle.plant.specs.declared.answer.Outcome.{Outcome}
-use Rattle.plant.specs.Answer.{Told, nothing, told, refused, first, decide}
+use Rattle.plant.specs.declared.answer.Told.{Told}
+use Rattle.plant.specs.Answer.{nothing, told, refused, first, decide}
 use Rattle.plant.specs.Calls.{receive, feed, settle, giveBack, release, step, stepBy, testsBy, tellsBy, toldOf, TellsLaw, ExactLaw}
 
 decide-told : (p : Plant) (n : ℕ) (o : Outcome) → told (decide p n o .answer) ≡ cond (eqb n 0) (told (o .answer)) (nothing n)

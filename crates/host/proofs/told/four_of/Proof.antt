@@ -1,59 +1,16 @@
 -- `host::told::four_of` meets its contract. Assumes nothing.
-use mathlib.Core.Path.{sym, ap}
-use Rattle.host.specs.Calls.{fourOf}
+use mathlib.Core.List.{List, [], _∷_}
+use mathlib.Core.Path.{ap}
+use Rattle.plant.specs.declared.answer.Told.{Told}
 use borrow.Author.Needs.{needs}
 use Rattle.host.proofs.told.four_of.Statement.{statement}
 use Rattle.host.proofs.told.four_of.Tie as tie
 
-enum-told : tie.Need-enum-told
-enum-told c = search needs
-
-enum-known-a : tie.Need-enum-known-a
-enum-known-a c = search needs
-
-enum-told-2 : tie.Need-enum-told-2
-enum-told-2 c = search needs
-
-enum-known-a-2 : tie.Need-enum-known-a-2
-enum-known-a-2 c = search needs
-
-enum-told-3 : tie.Need-enum-told-3
-enum-told-3 c = search needs
-
-enum-known-a-3 : tie.Need-enum-known-a-3
-enum-known-a-3 c = search needs
+told-of-requires : tie.Need-told-of-requires
+told-of-requires c κs = search needs
 
 returns : tie.Need-returns
-returns c = sym (ap fourOf (c .enum-told .given .1))
-
-returns-2 : tie.Need-returns-2
-returns-2 c = sym (ap fourOf (c .before .a .given .1))
-
-returns-3 : tie.Need-returns-3
-returns-3 c = sym (ap fourOf (c .enum-told2 .given .1))
-
-returns-4 : tie.Need-returns-4
-returns-4 c = sym (ap fourOf (c .before .a2 .given .1))
-
-returns-5 : tie.Need-returns-5
-returns-5 c = sym (ap fourOf (c .enum-told3 .given .1))
-
-returns-6 : tie.Need-returns-6
-returns-6 c = sym (ap fourOf (c .before .a3 .given .1))
+returns c = ap (λ (t : Told). t .burnt ∷ t .oxygen ∷ t .nitrate ∷ t .warn ∷ []) (c .told-of .ensures)
 
 pub four-of-spec : {M : Type 1} → statement M
-four-of-spec =
-    tie.close
-    (tie.spec
-    enum-told
-    enum-known-a
-    enum-told-2
-    enum-known-a-2
-    enum-told-3
-    enum-known-a-3
-    returns
-    returns-2
-    returns-3
-    returns-4
-    returns-5
-    returns-6)
+four-of-spec = tie.close (tie.spec told-of-requires returns)
