@@ -145,6 +145,7 @@ fn sum_within(a: &[u64], b: &[u64], ceilings: &[u64]) -> bool
     true
 }
 
+// Adds src to dst, column by column.
 fn add_into(dst: &mut [u64], src: &[u64])
     requires { ⌜ length (now src) ≡ length (now dst) ⌝ }
     requires { ⌜ ((i : ℕ) → getD (now dst) i 0 + getD (now src) i 0 < 18446744073709551616) ⌝ }

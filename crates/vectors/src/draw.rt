@@ -46,6 +46,7 @@ pub fn digester_rest(v: [u64; 26], k: u64) -> [u64; 26]
     s
 }
 
+// Leaves k thousandths of each column.
 fn take_part(v: &mut [u64], k: u64)
     requires { ⌜ ((i : ℕ) → getD (now v) i 0 * k < 18446744073709551616) ⌝ }
     ensures { λ _. ⌜ now (v .exit) ≡ drawn k (now (v .entry)) ⌝ }
@@ -58,6 +59,7 @@ fn take_part(v: &mut [u64], k: u64)
     }
 }
 
+// Takes k thousandths off each column.
 fn keep_rest(v: &mut [u64], k: u64)
     requires { ⌜ ((i : ℕ) → getD (now v) i 0 * k < 18446744073709551616) × (k ≤ 1000) ⌝ }
     ensures { λ _. ⌜ now (v .exit) ≡ rest k (now (v .entry)) ⌝ }

@@ -84,6 +84,7 @@ fn asm1_fractions(f: Figures) -> [u64; 13]
     [0, 0, f.ixe, 0, f.ixb, f.ixb, f.ixe, 0, 0, 1, 1, 1, 0]
 }
 
+// The same of a digester vector.
 fn digester_fractions(f: Figures) -> [u64; 26]
     ensures { λ r. ⌜ r ≡ digesterFractions f ⌝ }
 {

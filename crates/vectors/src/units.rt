@@ -127,13 +127,14 @@ pub fn share(x: Milligrams, a: u64, b: u64) -> Milligrams
     Milligrams(a * x.0 / b)
 }
 
-// The functions on counts that both units share.
+// Whether one count is less than another, for both units.
 fn is_smaller(a: u64, b: u64) -> bool
     ensures { λ r. ⌜ r ≡ ltb a b ⌝ }
 {
     a < b
 }
 
+// The smaller of two counts.
 fn smaller(a: u64, b: u64) -> u64
     ensures { λ r. ⌜ r ≡ min a b ⌝ }
 {
@@ -143,6 +144,7 @@ fn smaller(a: u64, b: u64) -> u64
     b
 }
 
+// What is left of a when b is taken from it, or 0.
 fn difference(a: u64, b: u64) -> u64
     ensures { λ r. ⌜ (r ≡ a - b) × (r ≤ a) ⌝ }
 {

@@ -1,4 +1,4 @@
--- Laws of division, which the unit functions and the stages share. Assumes nothing.
+-- Laws of sums, differences and quotients, which the unit functions and the stages share. Assumes nothing.
 --
 --   afford      as much of x as m has nitrogen for: at most x, and its nitrogen at most m
 --   share-le    a share is at most the whole
