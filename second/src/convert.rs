@@ -1,10 +1,11 @@
 //! The two conversions of document 01, each on one drawn vector: feed (ASM1 to
-//! digester, stages 1 to 5) and return (digester to ASM1).
+//! digester, stages 1 to 5) and return (digester to ASM1); and both of any vector
+//! by itself, without a record.
 //!
-//! Every column handed in stands at or below its ceiling. Then no product or sum
-//! here passes 64 bits: the greatest are 10^6 × 4·10^12 and 286 × 10^16.
+//! `feed` and `give_back` are handed no column above its ceiling. Then no product or
+//! sum here passes 64 bits: the greatest are 10^6 × 4·10^12 and 286 × 10^16.
 
-use crate::plant::Refusal;
+use crate::plant::{test_columns, Refusal};
 use crate::tables::*;
 use std::cmp::min;
 
@@ -24,6 +25,13 @@ pub struct FeedTold {
     pub oxygen: u64,
     pub nitrate: u64,
     pub warn: u64,
+}
+
+impl FeedTold {
+    /// Burnt, oxygen, nitrate and warn.
+    pub fn numbers(&self) -> [u64; 4] {
+        [self.burnt, self.oxygen, self.nitrate, self.warn]
+    }
 }
 
 /// Stage 4's outcome: digester xi, the need q, and the nitrogen pool P it is taken from.
@@ -140,4 +148,18 @@ fn take_in_turn(mut stores: [u64; 3], mut owed: u64) -> Result<[u64; 3], Refusal
         return Err(Refusal::ReturnNitrogenShort);
     }
     Ok(stores)
+}
+
+/// The feed's conversion of any ASM1 vector by itself; tests 3, 4, 6. A column of the
+/// digester vector may stand above its ceiling.
+pub fn asm_to_adm(v: &Asm1) -> Result<(Digester, FeedTold), Refusal> {
+    test_columns(v, &ASM1_CEILINGS)?;
+    feed(v)
+}
+
+/// The return's conversion of any digester vector by itself, with the COD stripped;
+/// tests 3, 5. A column of the ASM1 vector may stand above its ceiling.
+pub fn adm_to_asm(v: &Digester) -> Result<(Asm1, u64), Refusal> {
+    test_columns(v, &DIGESTER_CEILINGS)?;
+    give_back(v)
 }

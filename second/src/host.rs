@@ -1,75 +1,58 @@
-//! The exported C library, called from the tools `differ`, `bench` and `floating`.
-//! Where the archive was missing when the tools were built, `LINKED` is false and no
-//! call may be made.
+//! The exported C library, linked in with the feature `library`.
+//!
+//! Each function is declared once. What it is lent is a reference to an array of the
+//! length that the library takes: never null, aligned, and not overlapping with what it
+//! may write, which is all that it asks for; so safe code may call it. The two functions
+//! that take bytes take a pointer and a length, and have a function here that keeps the
+//! two together.
 
-/// A record as the C library takes it.
-pub type Record = [u64; 52];
+use crate::plant::Record;
+use crate::tables::{Asm1, Digester};
 
-/// Whether the C library is linked in.
-pub const LINKED: bool = cfg!(host_archive);
-
-#[cfg(host_archive)]
-mod library {
-    extern "C" {
-        /// Answers a line on the record; gives the count of answer bytes.
-        pub fn jilghvani_line(
-            record: *mut u64,
-            line: *const u8,
-            line_len: usize,
-            buf: *mut u8,
-            buf_len: usize,
-        ) -> usize;
-        /// Writes the record's held line; gives the count of its bytes.
-        pub fn jilghvani_held(record: *const u64, buf: *mut u8, buf_len: usize) -> usize;
-        /// Makes the call feed k by numbers; gives the refusal.
-        pub fn jilghvani_feed(record: *mut u64, k: u64, told: *mut u64) -> u64;
-    }
-}
-
-#[cfg(not(host_archive))]
-mod library {
-    /// Stands for `jilghvani_line` and is never called.
-    pub unsafe fn jilghvani_line(
-        _: *mut u64,
-        _: *const u8,
-        _: usize,
-        _: *mut u8,
-        _: usize,
-    ) -> usize {
-        unreachable!("the C library is not linked")
-    }
-
-    /// Stands for `jilghvani_held` and is never called.
-    pub unsafe fn jilghvani_held(_: *const u64, _: *mut u8, _: usize) -> usize {
-        unreachable!("the C library is not linked")
-    }
-
-    /// Stands for `jilghvani_feed` and is never called.
-    pub unsafe fn jilghvani_feed(_: *mut u64, _: u64, _: *mut u64) -> u64 {
-        unreachable!("the C library is not linked")
-    }
+unsafe extern "C" {
+    /// Answers a line; `line` below calls it.
+    fn jilghvani_line(
+        record: &mut Record,
+        line: *const u8,
+        line_len: usize,
+        buf: *mut u8,
+        buf_len: usize,
+    ) -> usize;
+    /// Writes the held line; `held` below calls it.
+    fn jilghvani_held(record: &Record, buf: *mut u8, buf_len: usize) -> usize;
+    /// The same as `numbers::fresh`.
+    pub safe fn jilghvani_fresh(record: &mut Record);
+    /// The same as `numbers::receive`.
+    pub safe fn jilghvani_receive(record: &mut Record, v: &Asm1) -> u64;
+    /// The same as `numbers::feed`.
+    pub safe fn jilghvani_feed(record: &mut Record, k: u64, told: &mut [u64; 4]) -> u64;
+    /// The same as `numbers::settle`.
+    pub safe fn jilghvani_settle(record: &mut Record, gas: u64, d: &Digester) -> u64;
+    /// The same as `numbers::give_back`.
+    pub safe fn jilghvani_return(record: &mut Record, k: u64, told: &mut [u64; 1]) -> u64;
+    /// The same as `numbers::release`.
+    pub safe fn jilghvani_release(record: &mut Record, k: u64, v: &mut Asm1) -> u64;
+    /// The same as `numbers::totals`.
+    pub safe fn jilghvani_totals(record: &Record, told: &mut [u64; 4]) -> u64;
+    /// The same as `numbers::asm_to_adm`.
+    pub safe fn jilghvani_asm_to_adm(v: &Asm1, d: &mut Digester, told: &mut [u64; 4]) -> u64;
+    /// The same as `numbers::adm_to_asm`.
+    pub safe fn jilghvani_adm_to_asm(d: &Digester, v: &mut Asm1, told: &mut [u64; 1]) -> u64;
+    /// The same as `numbers::close`.
+    pub safe fn jilghvani_close(record: &Record, d: &mut Digester, told: &mut [u64; 1]) -> u64;
+    /// The same as `numbers::gap`.
+    pub safe fn jilghvani_gap(record: &Record, d: &Digester, told: &mut [u64; 3]) -> u64;
 }
 
 /// Answers a line on the record; gives the count of answer bytes.
-#[allow(dead_code)]
 pub fn line(record: &mut Record, line: &[u8], buffer: &mut [u8]) -> usize {
     let (bytes, length) = (buffer.as_mut_ptr(), buffer.len());
-    // The record has 52 columns, and each pointer goes with its own length.
-    unsafe {
-        library::jilghvani_line(record.as_mut_ptr(), line.as_ptr(), line.len(), bytes, length)
-    }
+    // Each pointer goes with its own length.
+    unsafe { jilghvani_line(record, line.as_ptr(), line.len(), bytes, length) }
 }
 
 /// Writes the record's held line; gives the count of its bytes.
-#[allow(dead_code)]
 pub fn held(record: &Record, buffer: &mut [u8]) -> usize {
-    // The record has 52 columns, and the buffer's pointer goes with its own length.
-    unsafe { library::jilghvani_held(record.as_ptr(), buffer.as_mut_ptr(), buffer.len()) }
-}
-
-/// Makes the call feed k by numbers; gives the refusal, 0 where it is accepted.
-#[allow(dead_code)]
-pub fn feed(record: &mut Record, k: u64, told: &mut [u64; 4]) -> u64 {
-    // The record has 52 columns and told has four numbers.
-    unsafe { library::jilghvani_feed(record.as_mut_ptr(), k, told.as_mut_ptr()) }
+    // The pointer goes with its own length.
+    unsafe { jilghvani_held(record, buffer.as_mut_ptr(), buffer.len()) }
 }

@@ -1,19 +1,28 @@
-//! A second implementation of the ASM1 and ADM1 link, from document 01 alone.
+//! A second implementation of the ASM1 and ADM1 link, written from document 01 and, for
+//! what it has no line for (conversions by themselves, `close`, `gap`), from a description
+//! in words; never from the code of the verified link.
 //!
 //! The link:
 //! - `tables`: column names, ceilings, the house set, COD and TKN of a vector;
-//! - `convert`: feed and return of one drawn vector, stage by stage;
+//! - `convert`: feed and return stage by stage, of a drawn vector and of any by itself;
 //! - `plant`: the record with its three tanks, the five calls, held;
+//! - `closing`: what closes in the place of a solver's proposal, and how far off one is;
+//! - `numbers`: every call by numbers, as a host in C makes it;
 //! - `lines`: a line read as a call, an answer written into a lent buffer;
 //! - `session`: input cut into lines and answered in fixed memory.
 //!
-//! For the tools in `src/bin` only:
+//! For the tools in `src/bin` and for the tests:
 //! - `random`: the generator of their numbers;
-//! - `trials`: records, calls and lines to try, fair and damaged;
-//! - `outside`: trials of the program's input, output and arguments.
+//! - `trials`: records, calls, lines, vectors and proposals to try, fair and damaged;
+//! - `outside`: trials of the program's input, output and arguments;
+//! - `host`: the functions of the C library, with the feature `library` alone.
 
+pub mod closing;
 pub mod convert;
+#[cfg(feature = "library")]
+pub mod host;
 pub mod lines;
+pub mod numbers;
 pub mod outside;
 pub mod plant;
 pub mod random;

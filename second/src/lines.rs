@@ -221,11 +221,12 @@ pub fn held<'b>(plant: &Plant, buffer: &'b mut [u8]) -> &'b [u8] {
     out.filled()
 }
 
-/// Writes what is held; within the ceilings each sum is far below 2^64.
+/// Writes what is held.
 fn write_held(out: &mut Writer, held: &Held) {
-    out.labelled(b"(held cod ", held.cod as u64);
-    out.labelled(b" tkn ", held.tkn as u64);
-    out.labelled(b" oxygen ", held.oxygen as u64);
-    out.labelled(b" nitrate ", held.nitrate as u64);
+    let [cod, tkn, oxygen, nitrate] = held.numbers();
+    out.labelled(b"(held cod ", cod);
+    out.labelled(b" tkn ", tkn);
+    out.labelled(b" oxygen ", oxygen);
+    out.labelled(b" nitrate ", nitrate);
     out.text(b")");
 }

@@ -51,8 +51,15 @@ pub struct Held {
     pub nitrate: u128,
 }
 
-/// The number of columns of a record.
-pub const COLUMNS: usize = 52;
+impl Held {
+    /// COD, TKN, oxygen and nitrate; within the ceilings each is far below 2^64.
+    pub fn numbers(&self) -> [u64; 4] {
+        [self.cod, self.tkn, self.oxygen, self.nitrate].map(|sum| sum as u64)
+    }
+}
+
+/// A record by its 52 columns: those of the sludge, the digester and the reject tank.
+pub type Record = [u64; 52];
 
 /// The plant record. Its 52 columns stand in this order.
 #[derive(Clone, Copy, Debug, PartialEq, Eq)]
@@ -61,11 +68,6 @@ pub struct Plant {
     pub sludge: Asm1,
     pub digester: Digester,
     pub reject: Asm1,
-}
-
-/// Whether every column stands at or below its ceiling.
-fn within<const W: usize>(v: &[u64; W], ceilings: &[u64; W]) -> bool {
-    v.iter().zip(ceilings).fold(true, |fits, (column, ceiling)| fits & (column <= ceiling))
 }
 
 /// The k thousandths that are drawn of each column; k is at most 1000 and v within its ceilings.
@@ -91,6 +93,14 @@ fn add<const W: usize>(
     }
 }
 
+/// Refusal 3 where a column that is handed in stands above its ceiling.
+pub fn test_columns<const W: usize>(v: &[u64; W], ceilings: &[u64; W]) -> Result<(), Refusal> {
+    match within(v, ceilings) {
+        true => Ok(()),
+        false => Err(Refusal::ColumnAboveCeiling),
+    }
+}
+
 /// Refusal 2 where k is not 1 to 1000.
 fn test_thousandths(k: u64) -> Result<(), Refusal> {
     match (1..=1000).contains(&k) {
@@ -104,7 +114,7 @@ impl Plant {
     pub const FRESH: Plant = Plant { sludge: [0; 13], digester: [0; 26], reject: [0; 13] };
 
     /// The record whose 52 columns are these.
-    pub fn from_columns(columns: &[u64; COLUMNS]) -> Plant {
+    pub fn from_columns(columns: &Record) -> Plant {
         Plant {
             sludge: std::array::from_fn(|column| columns[column]),
             digester: std::array::from_fn(|column| columns[13 + column]),
@@ -113,8 +123,8 @@ impl Plant {
     }
 
     /// The 52 columns of the record in their order.
-    pub fn columns(&self) -> [u64; COLUMNS] {
-        let mut columns = [0; COLUMNS];
+    pub fn columns(&self) -> Record {
+        let mut columns = [0; 52];
         columns[..13].copy_from_slice(&self.sludge);
         columns[13..39].copy_from_slice(&self.digester);
         columns[39..].copy_from_slice(&self.reject);
@@ -135,9 +145,7 @@ impl Plant {
     /// Adds an ASM1 vector to the sludge tank; tests 1, 3, 10.
     pub fn receive(&mut self, v: &Asm1) -> Result<(), Refusal> {
         self.test_record()?;
-        if !within(v, &ASM1_CEILINGS) {
-            return Err(Refusal::ColumnAboveCeiling);
-        }
+        test_columns(v, &ASM1_CEILINGS)?;
         self.sludge = add(&self.sludge, v, &ASM1_CEILINGS)?;
         Ok(())
     }
@@ -157,9 +165,7 @@ impl Plant {
     pub fn settle(&mut self, gas: u64, v: &Digester) -> Result<(), Refusal> {
         use digester::{CN, CO};
         self.test_record()?;
-        if !within(v, &DIGESTER_CEILINGS) {
-            return Err(Refusal::ColumnAboveCeiling);
-        }
+        test_columns(v, &DIGESTER_CEILINGS)?;
         if cod_digester(&self.digester) != cod_digester(v) + u128::from(gas) {
             return Err(Refusal::CodOpen);
         }

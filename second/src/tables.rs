@@ -92,6 +92,11 @@ pub const DIGESTER_CEILINGS: Digester = {
     ceilings
 };
 
+/// Whether every column stands at or below its ceiling.
+pub fn within<const W: usize>(v: &[u64; W], ceilings: &[u64; W]) -> bool {
+    v.iter().zip(ceilings).fold(true, |fits, (column, ceiling)| fits & (column <= ceiling))
+}
+
 /// Nitrogen of biomass, in ticks per mg COD.
 pub const IXB: u64 = 880;
 /// Nitrogen of ASM1 inerts.
@@ -136,9 +141,13 @@ pub fn tkn_asm1(v: &Asm1) -> u128 {
 
 /// TKN of a digester vector, in ticks.
 pub fn tkn_digester(v: &Digester) -> u128 {
+    u128::from(v[digester::SIN]) + tkn_but_sin(v)
+}
+
+/// TKN of all columns of a digester vector but sin.
+pub fn tkn_but_sin(v: &Digester) -> u128 {
     use digester::*;
-    u128::from(v[SIN])
-        + u128::from(NXC) * u128::from(v[XC])
+    u128::from(NXC) * u128::from(v[XC])
         + u128::from(NI) * (u128::from(v[SI]) + u128::from(v[XI]))
         + u128::from(NAA) * (u128::from(v[XPR]) + u128::from(v[SAA]))
         + u128::from(NBAC) * sum(&v[DEGRADERS])

@@ -2,37 +2,12 @@
 //! example of each refusal, the grammar of a line, the buffer and the cutting of
 //! an input into lines.
 
+mod named;
+
+use named::{asm1, digester, with_digester, with_sludge};
 use second::plant::{Call, Plant, Refusal, Told};
 use second::tables::*;
 use second::{convert, lines, session};
-
-/// An ASM1 vector by its named columns.
-fn asm1(named: &[(&str, u64)]) -> Asm1 {
-    let mut v = [0; 13];
-    for (name, number) in named {
-        v[asm1_column(name.as_bytes()).unwrap()] = *number;
-    }
-    v
-}
-
-/// A digester vector by its named columns.
-fn digester(named: &[(&str, u64)]) -> Digester {
-    let mut v = [0; 26];
-    for (name, number) in named {
-        v[digester_column(name.as_bytes()).unwrap()] = *number;
-    }
-    v
-}
-
-/// A fresh record whose sludge is this.
-fn with_sludge(named: &[(&str, u64)]) -> Plant {
-    Plant { sludge: asm1(named), ..Plant::FRESH }
-}
-
-/// A fresh record whose digester is this.
-fn with_digester(named: &[(&str, u64)]) -> Plant {
-    Plant { digester: digester(named), ..Plant::FRESH }
-}
 
 /// The answer to one line on a record, as text.
 fn answer(plant: &mut Plant, line: &str) -> String {
@@ -51,7 +26,7 @@ fn printed(input: &[u8]) -> String {
 fn fed(sludge: &[(&str, u64)], told: [u64; 4], expected: &[(&str, u64)]) {
     let v = asm1(sludge);
     let (out, t) = convert::feed(&v).unwrap();
-    assert_eq!([t.burnt, t.oxygen, t.nitrate, t.warn], told);
+    assert_eq!(t.numbers(), told);
     assert_eq!(out, digester(expected));
     assert_eq!(cod_asm1(&v), cod_digester(&out) + u128::from(t.burnt));
     assert_eq!(tkn_asm1(&v), tkn_digester(&out));
@@ -127,7 +102,13 @@ fn return_sums_its_groups() {
 fn session_of_document_01() {
     let input = b"(receive (ss 10000) (xs 30000) (so 5000) (sno 100000000))\n(feed 1000)\n\
         (feed 0)\n(return 1000)\n(release 1000)\n";
-    let expected = include_str!("../../host/session.expected");
+    let expected = "(ok receive)\n\
+        (ok feed burnt 33600 oxygen 5000 nitrate 100000000 warn 0)\n\
+        (no 2)\n\
+        (ok return stripped 0)\n\
+        (ok release (si 0) (ss 0) (xi 0) (xs 6400) (xbh 0) (xba 0) (xp 0) (so 0) (sno 0) \
+        (snh 0) (snd 0) (xnd 0) (salk 0))\n\
+        (held cod 0 tkn 0 oxygen 0 nitrate 0)\n";
     assert_eq!(printed(input), expected);
     assert_eq!(printed(&input[..input.len() - 1]), expected);
 }

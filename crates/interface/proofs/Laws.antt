@@ -2,3 +2,4 @@
 pub mod Feed
 pub mod Return
 pub mod Plants
+pub mod Whole

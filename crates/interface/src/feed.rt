@@ -14,8 +14,10 @@ use vectors::Ticks;
 use vectors::afforded;
 use vectors::asm1_of;
 use vectors::digester_array;
+use vectors::milligrams_for;
 use vectors::nitrogen;
 use vectors::share;
+use vectors::ticks_for;
 
 // What a feed conversion gives: refusal 0 with the vector and the numbers told, or a refusal with zeros.
 pub struct Fed {
@@ -56,7 +58,7 @@ fn feed_asm1(f: Figures, v: Asm1) -> Fed
 }
 
 // A refusal, which tells zeros.
-fn feed_refused(n: u64) -> Fed
+pub fn feed_refused(n: u64) -> Fed
     ensures { λ r. ⌜ r ≡ feedRefused n ⌝ }
 {
     Fed {
@@ -106,7 +108,7 @@ fn reducible(x: Milligrams) -> Ticks
     requires { ⌜ x .0 ≤ 4000000000000 ⌝ }
     ensures { λ r. ⌜ r .0 ≡ nitrateRule .ticks * x .0 / nitrateRule .cod ⌝ }
 {
-    Ticks(NITRATE_TICKS * x.0 / NITRATE_COD)
+    ticks_for(x, NITRATE_TICKS, NITRATE_COD)
 }
 
 // The COD that reducing nitrate burns, rounded up.
@@ -114,7 +116,7 @@ fn nitrate_cod(n: Ticks) -> Milligrams
     requires { ⌜ n .0 ≤ 10000000000000000 ⌝ }
     ensures { λ r. ⌜ (r .0 ≡ ceil (nitrateRule .cod * n .0) (nitrateRule .ticks)) × (r .0 ≤ 4000000000000) ⌝ }
 {
-    Milligrams((NITRATE_COD * n.0 + (NITRATE_TICKS - 1)) / NITRATE_TICKS)
+    milligrams_for(n, NITRATE_COD, NITRATE_TICKS)
 }
 
 // A, o, r and D of stage 1.

@@ -45,7 +45,7 @@ fn return_digester(f: Figures, d: Digester) -> Returned
 }
 
 // A refusal, which tells zeros.
-fn return_refused(n: u64) -> Returned
+pub fn return_refused(n: u64) -> Returned
     ensures { λ r. ⌜ r ≡ returnRefused n ⌝ }
 {
     Returned {

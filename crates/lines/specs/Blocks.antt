@@ -9,7 +9,7 @@
 --   endOf                 behind the last byte of the input
 --   stateOf               the state of the session that a desk stands for
 --   DeskLaw               the functions of the code, as the session byte by byte. proofs/Laws/Run.antt proves it: desks
---   core, carried         what goes from block to block: the line that is not ended and the record
+--   carried               what goes from block to block: the line that is not ended and the record
 --
 -- Each is defined for any place, any buffers and any block; what does not fit stays as it is.
 use mathlib.Core.Bool.{Bool, true, cond, _&&_}
@@ -100,7 +100,8 @@ abbrev pub stateOf : Desk → State
 stateOf k = record { held = take (k .place .held) (k .line); plant = k .place .plant; printed = take (k .place .at) (k .out) }
 
 -- what a place with its buffers stands for, in the session byte by byte: a block's steps run through the bytes that they used, and behind
--- the last byte the bytes that are not written are those of the run and its end. With PrintedLaw, that is what is printed for the input.
+-- the last byte the bytes that are not written are those of the run and its end. Where the bytes of each run are written before the next,
+-- WrittenLaw says that all of them together are what is printed for the input.
 pub record DeskRuns (f : Figures) (k : Desk) : Type 0 where
   pub block : (block : List ℕ)
       → stateOf (blockOf f block k) ≡ run f (stateOf k) (take (blockOf f block k .place .used - k .place .used) (drop (k .place .used) block))
@@ -108,10 +109,6 @@ pub record DeskRuns (f : Figures) (k : Desk) : Type 0 where
 
 abbrev pub DeskLaw : Type 0
 DeskLaw = (f : Figures) (k : Desk) → DeskRuns f k
-
--- a state without what is printed
-abbrev pub core : State → State
-core st = record { held = st .held; plant = st .plant; printed = [] }
 
 abbrev pub carried : Place → List ℕ → State
 carried p line = record { held = take (p .held) line; plant = p .plant; printed = [] }

@@ -11,6 +11,7 @@
 --   joined, runBlocks            an input that falls into blocks, and its blocks one behind the other
 --   PrintedLaw                   however an input falls into blocks, the answers on the way and then the end are what is printed for it.
 --                                proofs/Laws/Session.antt proves it: printed-whole
+--   written, WrittenLaw          the same where the answers are written behind each block: proofs/Laws/Carry.antt, written-whole
 --   FileLaw                      for any input, its accepted lines' sums balance against its held line. proofs/Laws/File.antt proves it: file
 --
 -- f is the set of figures; the program has the house set.
@@ -103,6 +104,10 @@ pub record State : Type 0 where
 abbrev pub start : Plant → State
 start p = record { held = []; plant = p; printed = [] }
 
+-- a state without what is printed
+abbrev pub core : State → State
+core st = record { held = st .held; plant = st .plant; printed = [] }
+
 -- one byte over the limit is all that a refusal needs
 abbrev pub keep : List ℕ → List ℕ → List ℕ
 keep h s = take 1025 (h ++ s)
@@ -138,8 +143,16 @@ endText f p held = transcript f p (lastLine held)
 abbrev pub said : Figures → State → List ℕ
 said f st = st .printed ++ endText f (st .plant) (st .held)
 
+-- what is written where a session writes what it has printed behind each block, and goes on with the line that is not ended and the record
+unfoldable pub written : Figures → State → List (List ℕ) → List ℕ
+written f st [] = said f st
+written f st (b ∷ bs) = run f st b .printed ++ written f (core (run f st b)) bs
+
 abbrev pub PrintedLaw : Type 0
 PrintedLaw = (f : Figures) (p : Plant) (bs : List (List ℕ)) → said f (runBlocks f (start p) bs) ≡ printed f p (joined bs)
+
+abbrev pub WrittenLaw : Type 0
+WrittenLaw = (f : Figures) (p : Plant) (bs : List (List ℕ)) → written f (start p) bs ≡ printed f p (joined bs)
 
 -- the sums over an input's accepted lines against its held line, which is never a refusal
 pub record FileBalanced (f : Figures) (rs : List Request) (held : HeldTotals) : Type 0 where

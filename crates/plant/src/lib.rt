@@ -34,6 +34,7 @@ pub use holding::held;
 pub use receiving::receive;
 pub use record::Plant;
 pub use record::fresh;
+pub use record::record_within;
 pub use releasing::release;
 pub use returning::give_back;
 pub use settling::settle;

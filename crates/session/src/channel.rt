@@ -1,5 +1,6 @@
 // Standard input and output. A read or a write that is interrupted or would block is tried again after a short sleep; any other failure
 // is told on standard error.
+ghost use mathlib.Core.Bool.{true};
 ghost use mathlib.Core.Path.{_≡_};
 ghost use Prim.Native.Nat.{_≤_};
 ghost use lib.ListN.{length};
@@ -37,7 +38,7 @@ pub fn read_some(input: &mut [u8]) -> Got
 
 // A read that failed, which is told on standard error.
 fn failed_read() -> Got
-    ensures { λ r. ⌜ r .count ≡ 0 ⌝ }
+    ensures { λ r. ⌜ (r .count ≡ 0) × (r .failed ≡ true) ⌝ }
 {
     os::fail(b"sludgeline: standard input");
     Got {

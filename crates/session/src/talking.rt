@@ -1,13 +1,13 @@
-// The conversation: standard input in blocks, and the answers on standard output. What is printed is `printed` of crates/lines/specs: each
-// function here promises, by its definitions, what is carried on and what stands in the buffer that it writes.
+// The conversation: standard input in blocks, and the answers on standard output. What is printed is `printed` of crates/lines/specs. The
+// functions below `talk_over` promise what is carried from block to block; what no contract reaches is in docs/DECISIONS.md, "What is proved
+// of the program".
 ghost use mathlib.Core.Bool.{true};
 ghost use mathlib.Core.Path.{_≡_};
 ghost use Prim.Native.Nat.{_≤_};
 ghost use lib.ListN.{length};
 ghost use Rattle.vectors.specs.Figures.{house};
-ghost use Rattle.lines.specs.Session.{run};
-ghost use Rattle.lines.specs.Blocks.{desk, endOf, core, carried};
-ghost use Rattle.session.specs.Turns.{Turned};
+ghost use Rattle.lines.specs.Session.{core, run};
+ghost use Rattle.lines.specs.Blocks.{placeAt, carried};
 use crate::channel::read_some;
 use crate::channel::write_all;
 use lines::Place;
@@ -26,7 +26,7 @@ fn line_buffer() -> [u8; 1025]
     [0; 1025]
 }
 
-// The turns, and behind the input's end the end of the session. A failure ends it at once.
+// Block after block on a fresh record, and behind the input's end the end of the session. A failure ends it at once.
 fn talk_over(input: &mut [u8], line: &mut [u8], out: &mut [u8])
     requires { ⌜ (length (now line) ≡ 1025) × (length (now out) ≡ 65536) ⌝ }
 {
@@ -39,79 +39,44 @@ fn talk_over(input: &mut [u8], line: &mut [u8], out: &mut [u8])
     };
     let mut turns = u64::MAX;
     while turns > 0 {
-        let t = take_turn(input, line, out, p);
-        p = t.place;
-        let came = t.came;
-        match came {
-            Came::More(_) => turns -= 1,
-            Came::End => return,
-            Came::Failed => return,
+        let got = read_some(input);
+        if got.failed {
+            return;
         }
+        let n = got.count;
+        if n == 0 {
+            end_talk(line, out, p);
+            return;
+        }
+        let w = answer_all(&input[..n], line, out, next_block(p));
+        if !w.done {
+            return;
+        }
+        p = w.place;
+        turns -= 1;
     }
 }
 
-// What a turn came to: so many bytes were read and answered, the input ended, or a read or a write failed.
-pub enum Came {
-    More(usize),
-    End,
-    Failed,
-}
-
-// With the place behind it.
-pub struct Turn {
-    pub came: Came,
-    pub place: Place,
-}
-
-// One read, and the answers to the lines that it ended, which are written before the next read; at the input's end, the end of the session.
-fn take_turn(input: &mut [u8], line: &mut [u8], out: &mut [u8], p: Place) -> Turn
-    requires { ⌜ (p .held ≤ 1025) × (p .at ≡ 0) × (length (now line) ≡ 1025) × (length (now out) ≡ 65536) ⌝ }
-    ensures { λ r. ⌜ Turned (desk p (now (line .entry)) (now (out .entry))) (now (input .exit)) (r .came) (desk (r .place) (now (line .exit)) (now (out .exit))) ⌝ }
+// At the start of a block.
+fn next_block(p: Place) -> Place
+    ensures { λ r. ⌜ r ≡ placeAt 0 (p .held) (p .at) (p .plant) ⌝ }
 {
-    let got = read_some(input);
-    if got.failed {
-        return Turn {
-            came: Came::Failed,
-            place: p,
-        };
-    }
-    let n = got.count;
-    if n == 0 {
-        return end_turn(line, out, p);
-    }
     let plant = p.plant;
-    let start = Place {
+    Place {
         used: 0,
         held: p.held,
-        at: 0,
+        at: p.at,
         plant,
-    };
-    let w = answer_all(&input[..n], line, out, start);
-    let place = w.place;
-    if w.done {
-        return Turn {
-            came: Came::More(n),
-            place,
-        };
-    }
-    Turn {
-        came: Came::Failed,
-        place,
     }
 }
 
-// The end of the session: the answer to a line that lacks its newline, and the held line.
-fn end_turn(line: &[u8], out: &mut [u8], p: Place) -> Turn
+// The end of the session: the answer to a line that lacks its newline, and the held line are written.
+fn end_talk(line: &[u8], out: &mut [u8], p: Place)
     requires { ⌜ (p .at ≡ 0) × (length (now out) ≡ 65536) ⌝ }
-    ensures { λ r. ⌜ (r .came ≡ Came.End) × (desk (r .place) (now (line .entry)) (now (out .exit)) ≡ endOf house (desk p (now (line .entry)) (now (out .entry)))) ⌝ }
 {
     let q = lines::end_session(line, out, p);
     let at = q.at;
     write_all(&out[..at]);
-    Turn {
-        came: Came::End,
-        place: q,
-    }
 }
 
 // Whether answers were written, and the place with none that are not.
@@ -144,7 +109,7 @@ fn answer_all(block: &[u8], line: &mut [u8], out: &mut [u8], p: Place) -> Writte
 // The answers that are not written are written.
 fn write_answers(out: &[u8], p: Place) -> Written
     requires { ⌜ p .at ≤ length (now out) ⌝ }
-    ensures { λ r. ⌜ (r .place .used ≡ p .used) × (r .place .held ≡ p .held) × (r .place .plant ≡ p .plant) × (r .place .at ≡ 0) ⌝ }
+    ensures { λ r. ⌜ r .place ≡ placeAt (p .used) (p .held) 0 (p .plant) ⌝ }
 {
     let at = p.at;
     let done = write_all(&out[..at]);

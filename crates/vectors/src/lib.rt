@@ -13,6 +13,7 @@ mod figures;
 mod totals;
 mod units;
 
+pub use ceilings::TICK_CEILING;
 pub use ceilings::asm1_sum;
 pub use ceilings::asm1_sum_within;
 pub use ceilings::asm1_within;
@@ -39,5 +40,7 @@ pub use units::Milligrams;
 pub use units::Millimoles;
 pub use units::Ticks;
 pub use units::afforded;
+pub use units::milligrams_for;
 pub use units::nitrogen;
 pub use units::share;
+pub use units::ticks_for;

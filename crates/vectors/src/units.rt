@@ -1,5 +1,5 @@
-// One tuple struct for each unit of document 01, with its sums and tests, so that no function adds COD to nitrogen or compares the two.
-// `nitrogen` is the one place where COD becomes nitrogen.
+// One tuple struct for each unit of document 01, with its sums and tests: a sum or a test of two units does not compile. What goes from one
+// unit to the other stands here: `nitrogen`, `afforded`, `ticks_for` and `milligrams_for`. (The totals add raw columns by their weights.)
 ghost use mathlib.Core.Path.{_≡_};
 ghost use Prim.Native.Nat.{_+_, _-_, _*_, _/_, _≤_, min};
 ghost use lib.Dec.{ltb, eqb};
@@ -125,6 +125,22 @@ pub fn share(x: Milligrams, a: u64, b: u64) -> Milligrams
     ensures { λ r. ⌜ (r .0 ≡ a * x .0 / b) × (r .0 ≤ x .0) ⌝ }
 {
     Milligrams(a * x.0 / b)
+}
+
+// The ticks of x, at a rate of so many ticks for so many milligrams, rounded down.
+pub fn ticks_for(x: Milligrams, ticks: u64, cod: u64) -> Ticks
+    requires { ⌜ ((1 ≤ cod) × (ticks ≤ 1000000)) × (x .0 ≤ 4000000000000) ⌝ }
+    ensures { λ r. ⌜ r .0 ≡ ticks * x .0 / cod ⌝ }
+{
+    Ticks(ticks * x.0 / cod)
+}
+
+// The milligrams of n, at a rate of so many milligrams for so many ticks, rounded up.
+pub fn milligrams_for(n: Ticks, cod: u64, ticks: u64) -> Milligrams
+    requires { ⌜ ((1 ≤ ticks) × (ticks ≤ 1000000)) × ((cod ≤ 1000) × (n .0 ≤ 10000000000000000)) ⌝ }
+    ensures { λ r. ⌜ r .0 ≡ (cod * n .0 + (ticks - 1)) / ticks ⌝ }
+{
+    Milligrams((cod * n.0 + (ticks - 1)) / ticks)
 }
 
 // Whether one count is less than another, for both units.

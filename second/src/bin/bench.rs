@@ -5,15 +5,12 @@
 //!
 //! Here: the options, the session file, the timed programs, the timed feeds.
 
-#[path = "../host.rs"]
-mod host;
-
-use second::lines;
-use second::plant::{Call, Plant};
+use second::plant::{Call, Plant, Record};
 use second::random::Random;
 use second::tables::Asm1;
 use second::trials::amounts::{self, Scale};
 use second::trials::{damage, form, proposals};
+use second::{host, lines};
 use std::fs::File;
 use std::hint::black_box;
 use std::path::{Path, PathBuf};
@@ -222,7 +219,7 @@ fn feeds() -> (Vec<Plant>, Vec<u64>) {
 fn rust_feed(plant: &mut Plant, k: u64, told: &mut [u64; 4]) -> u64 {
     match plant.feed(k) {
         Ok(t) => {
-            *told = [t.burnt, t.oxygen, t.nitrate, t.warn];
+            *told = t.numbers();
             0
         }
         Err(refusal) => {
@@ -262,7 +259,7 @@ fn feeds_alike(plants: &[Plant], thousandths: &[u64]) -> (bool, usize) {
         let (mut told, mut their_told) = ([7; 4], [9; 4]);
         let refusal = rust_feed(&mut ours, k, &mut told);
         refused += usize::from(refusal != 0);
-        let same = host::feed(&mut theirs, k, &mut their_told) == refusal;
+        let same = host::jilghvani_feed(&mut theirs, k, &mut their_told) == refusal;
         same && told == their_told && ours.columns() == theirs
     });
     (alike, refused)
@@ -270,9 +267,6 @@ fn feeds_alike(plants: &[Plant], thousandths: &[u64]) -> (bool, usize) {
 
 /// Times one feed of the library and of Rust, in turn, and prints both.
 fn bench_feeds(options: &Options) -> Result<(), String> {
-    if !host::LINKED {
-        return Err("feeds: the C library was missing when this was built".into());
-    }
     let (plants, thousandths) = feeds();
     let (alike, refused) = feeds_alike(&plants, &thousandths);
     println!(
@@ -280,10 +274,12 @@ fn bench_feeds(options: &Options) -> Result<(), String> {
         SEED + 1
     );
     println!("both give the same: {}", if alike { "yes" } else { "NO" });
-    let records: Vec<host::Record> = plants.iter().map(Plant::columns).collect();
+    let records: Vec<Record> = plants.iter().map(Plant::columns).collect();
     let (mut library, mut rust) = (Vec::new(), Vec::new());
     for _ in 0..options.rounds {
-        library.push(time_feeds(&records, &thousandths, host::feed));
+        library.push(time_feeds(&records, &thousandths, |record, k, told| {
+            host::jilghvani_feed(record, k, told)
+        }));
         rust.push(time_feeds(&plants, &thousandths, rust_feed));
     }
     let (library, rust) = (median_and_least(library), median_and_least(rust));

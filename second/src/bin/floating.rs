@@ -13,13 +13,10 @@
 //! Here: 004's formulas, the plant in double precision, the plant of the C library, a
 //! run of both, the table, the options.
 
-#[path = "../host.rs"]
-mod host;
-
-use second::plant::Call;
+use second::host;
+use second::plant::{Call, Record};
 use second::random::Random;
 use second::tables::{self, asm1, digester, Asm1};
-use second::trials::form;
 use std::process::ExitCode;
 
 /// An ASM1 vector in g.
@@ -267,7 +264,7 @@ impl RealPlant {
 
 /// The plant of the C library, with the balances' incomings and outgoings so far, in counts.
 struct ProvedPlant {
-    record: host::Record,
+    record: Record,
     received: [u128; 4],
     out: [u128; 4],
     accepted: u64,
@@ -283,67 +280,61 @@ fn add_counts(to: &mut [u128; 4], more: [u128; 4]) {
     to.iter_mut().zip(more).for_each(|(count, more)| *count += more);
 }
 
-/// The numbers of an answer that begins with these words; none for another answer.
-fn numbers<const W: usize>(answer: &[u8], words: &str) -> Option<[u64; W]> {
-    let rest = std::str::from_utf8(answer).ok()?.strip_prefix(words)?;
-    let items = rest.split(|letter: char| !letter.is_ascii_digit()).filter(|item| !item.is_empty());
-    items.map(|item| item.parse().ok()).collect::<Option<Vec<u64>>>()?.try_into().ok()
-}
-
 impl ProvedPlant {
     /// The fresh plant.
     fn fresh() -> ProvedPlant {
-        ProvedPlant { record: [0; 52], received: [0; 4], out: [0; 4], accepted: 0 }
+        let mut record = [u64::MAX; 52];
+        host::jilghvani_fresh(&mut record);
+        ProvedPlant { record, received: [0; 4], out: [0; 4], accepted: 0 }
     }
 
-    /// Makes a call; false where it is refused. The fields' order is drawn from `random`.
-    fn call(&mut self, random: &mut Random, call: &Call) -> bool {
-        let out = match call {
+    /// Makes a call; false where it is refused.
+    fn call(&mut self, call: &Call) -> bool {
+        let (refusal, out) = match call {
+            Call::Receive(v) => (host::jilghvani_receive(&mut self.record, v), [0; 4]),
             Call::Feed(k) => self.feed(*k),
-            _ => self.line(&form(random, call), call),
+            Call::Return(k) => self.give_back(*k),
+            Call::Release(k) => self.release(*k),
+            Call::Settle(..) => unreachable!("a run settles nothing"),
         };
-        if let Some(out) = out {
-            self.accepted += 1;
-            add_counts(&mut self.out, out);
+        if refusal != 0 {
+            return false;
         }
-        if let (Call::Receive(v), Some(_)) = (call, out) {
+        if let Call::Receive(v) = call {
             add_counts(&mut self.received, exact_measures(v));
         }
-        out.is_some()
+        add_counts(&mut self.out, out);
+        self.accepted += 1;
+        true
     }
 
-    /// Feeds by numbers; gives what leaves the tanks, none where it is refused.
-    fn feed(&mut self, k: u64) -> Option<[u128; 4]> {
+    /// Feeds; gives the refusal and what leaves the tanks.
+    fn feed(&mut self, k: u64) -> (u64, [u128; 4]) {
         let mut told = [0; 4];
-        let refusal = host::feed(&mut self.record, k, &mut told);
+        let refusal = host::jilghvani_feed(&mut self.record, k, &mut told);
         let [burnt, oxygen, nitrate, _] = told.map(u128::from);
-        (refusal == 0).then_some([burnt, 0, oxygen, nitrate])
+        (refusal, [burnt, 0, oxygen, nitrate])
     }
 
-    /// Makes another call by its line; gives what leaves the tanks, none where it is refused.
-    fn line(&mut self, line: &[u8], call: &Call) -> Option<[u128; 4]> {
-        let mut buffer = [0; 512];
-        let length = host::line(&mut self.record, line, &mut buffer);
-        let answer = &buffer[..length];
-        if answer.starts_with(b"(no ") {
-            return None;
-        }
-        let out = match call {
-            Call::Receive(_) => numbers(answer, "(ok receive)").map(|[]| [0; 4]),
-            Call::Return(_) => {
-                numbers(answer, "(ok return stripped ").map(|[stripped]| [stripped.into(), 0, 0, 0])
-            }
-            _ => numbers(answer, "(ok release ").map(|v| exact_measures(&v)),
-        };
-        Some(out.unwrap_or_else(|| panic!("a wrong answer: {}", answer.escape_ascii())))
+    /// Returns; gives the refusal and what leaves the tanks.
+    fn give_back(&mut self, k: u64) -> (u64, [u128; 4]) {
+        let mut told = [0];
+        let refusal = host::jilghvani_return(&mut self.record, k, &mut told);
+        (refusal, [told[0].into(), 0, 0, 0])
+    }
+
+    /// Releases; gives the refusal and what leaves the tanks.
+    fn release(&mut self, k: u64) -> (u64, [u128; 4]) {
+        let mut v = [0; 13];
+        let refusal = host::jilghvani_release(&mut self.record, k, &mut v);
+        (refusal, exact_measures(&v))
     }
 
     /// Received less what is held and what went out, for each balance, in counts.
     fn gaps(&self) -> [i128; 4] {
-        let mut buffer = [0; 512];
-        let length = host::held(&self.record, &mut buffer);
-        let held = numbers::<4>(&buffer[..length], "(held cod ")
-            .expect("a record that calls gave is within its ceilings");
+        let mut held = [0; 4];
+        let refusal = host::jilghvani_totals(&self.record, &mut held);
+        assert_eq!(refusal, 0, "a record that calls gave is within its ceilings");
         std::array::from_fn(|which| {
             self.received[which] as i128 - (u128::from(held[which]) + self.out[which]) as i128
         })
@@ -438,13 +429,12 @@ impl Report {
     }
 }
 
-/// Runs one plant by both links, with the same calls. The fields' order is drawn from a copy,
-/// so that the next call does not depend on how this one was written.
+/// Runs one plant by both links, with the same calls.
 fn one_run(random: &mut Random, size: &Size, calls: u64, report: &mut Report) {
     let (mut plant, mut proved) = (RealPlant::fresh(), ProvedPlant::fresh());
     for _ in 0..calls {
         let call = next_call(random, size);
-        let accepted = proved.call(&mut random.clone(), &call);
+        let accepted = proved.call(&call);
         report.judged_apart += u64::from(plant.call(&call) != accepted);
     }
     report.accepted += proved.accepted;
@@ -483,13 +473,9 @@ fn run([seed, runs, calls]: [u64; 3]) -> u64 {
 }
 
 /// Ends with status 0 where every run of the proved link closes, 1 where one does not, and 2
-/// on a wrong command line or without the C library.
+/// on a wrong command line.
 fn main() -> ExitCode {
-    let linked = match host::LINKED {
-        true => options(),
-        false => Err("the C library was missing when this was built".into()),
-    };
-    match linked.map(run) {
+    match options().map(run) {
         Ok(0) => ExitCode::SUCCESS,
         Ok(_) => ExitCode::FAILURE,
         Err(error) => {

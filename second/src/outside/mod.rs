@@ -128,7 +128,8 @@ fn ended_with_message(ended: &Ended) -> Verdict {
     ended_itself(ended)?;
     ask(!ended.messages.is_empty(), || "no message on standard error".into())?;
     let named = ended.messages.strip_prefix(NAME).is_some_and(|words| words.len() > 1);
-    ask(named, || format!("on standard error: {}", shown(&ended.messages)))
+    let one = ended.messages.iter().filter(|&&byte| byte == b'\n').count() == 1;
+    ask(named && one, || format!("on standard error: {}", shown(&ended.messages)))
 }
 
 /// Asks that the program ended by itself and without a message.

@@ -106,14 +106,25 @@ pub fn record(random: &mut Random, scale: &Scale) -> Plant {
     Plant { sludge, digester: digester(random, scale), reject: asm1(random, scale) }
 }
 
+/// A vector with each column lowered to its ceiling.
+pub fn lowered<const W: usize>(v: &[u64; W], ceilings: &[u64; W]) -> [u64; W] {
+    std::array::from_fn(|column| v[column].min(ceilings[column]))
+}
+
+/// Puts one column of a vector just above its ceiling.
+pub fn put_above<const W: usize>(random: &mut Random, v: &mut [u64; W], ceilings: &[u64; W]) {
+    let column = random.index(W);
+    v[column] = ceilings[column] + 1;
+}
+
 /// A record with no column above its ceiling.
 pub fn record_within(random: &mut Random, scale: &Scale) -> Plant {
-    let mut plant = record(random, scale);
-    let lower = |column: &mut u64, ceiling: &u64| *column = (*column).min(*ceiling);
-    plant.sludge.iter_mut().zip(&ASM1_CEILINGS).for_each(|(column, top)| lower(column, top));
-    plant.digester.iter_mut().zip(&DIGESTER_CEILINGS).for_each(|(column, top)| lower(column, top));
-    plant.reject.iter_mut().zip(&ASM1_CEILINGS).for_each(|(column, top)| lower(column, top));
-    plant
+    let plant = record(random, scale);
+    Plant {
+        sludge: lowered(&plant.sludge, &ASM1_CEILINGS),
+        digester: lowered(&plant.digester, &DIGESTER_CEILINGS),
+        reject: lowered(&plant.reject, &ASM1_CEILINGS),
+    }
 }
 
 /// A record with one column or a few above their ceilings.

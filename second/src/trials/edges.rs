@@ -1,5 +1,5 @@
-//! Receives and records at the points where the rules branch: each stage of the
-//! feed, the shortages of nitrogen, and the ceilings of the tanks that are added to.
+//! Vectors and records at the points where the rules branch: each stage of the feed,
+//! the shortages of nitrogen, and the ceilings of the tanks that are added to.
 
 use super::amounts::{self, Scale};
 use super::thousandths;
@@ -21,8 +21,7 @@ fn nudged(random: &mut Random, number: u64) -> u64 {
 /// A vector to receive into this sludge so that a feed of all of it meets an edge.
 pub fn receive_to_edge(random: &mut Random, scale: &Scale, sludge: &Asm1) -> Asm1 {
     let mut v = amounts::asm1(random, scale);
-    let within = |v: &Asm1| v.iter().zip(&ASM1_CEILINGS).all(|(column, top)| column <= top);
-    if within(&v) && within(sludge) {
+    if within(&v, &ASM1_CEILINGS) && within(sludge, &ASM1_CEILINGS) {
         for _ in 0..random.one_of(&[1, 1, 2, 3]) {
             let sum = std::array::from_fn(|column| sludge[column] + v[column]);
             one_edge(random, &mut v, &sum);
@@ -85,15 +84,13 @@ pub fn record_at_edge(random: &mut Random, scale: &Scale) -> Plant {
     match random.below(4) {
         0 => full_digester(random, &mut plant),
         1 => full_reject(random, &mut plant),
-        2 => short_return(random, &mut plant),
-        _ => plant.sludge = within(receive_to_edge(random, scale, &[0; 13])),
+        2 => short_return(random, &mut plant.digester),
+        _ => {
+            let v = receive_to_edge(random, scale, &[0; 13]);
+            plant.sludge = amounts::lowered(&v, &ASM1_CEILINGS);
+        }
     }
     plant
-}
-
-/// Lowers each column to its ceiling.
-fn within(v: Asm1) -> Asm1 {
-    std::array::from_fn(|column| v[column].min(ASM1_CEILINGS[column]))
 }
 
 /// Fills a digester column so that a feed just fits or passes the ceiling by one.
@@ -116,9 +113,8 @@ fn full_reject(random: &mut Random, plant: &mut Plant) {
     }
 }
 
-/// Gives the digester just the nitrogen that its inerts return with, or one tick less or more.
-fn short_return(random: &mut Random, plant: &mut Plant) {
-    let v = &mut plant.digester;
+/// Gives a digester just the nitrogen that its inerts return with, or one tick less or more.
+pub fn short_return(random: &mut Random, v: &mut Digester) {
     v[digester::XI] = 1 + random.sized(v[digester::XI].max(20)).min(COD_CEILING - 1);
     v[digester::SIN] = 0;
     let without = tkn_digester(v) as u64;

@@ -1,10 +1,11 @@
 //! What the tools try on the link. Everything is drawn from a `Random`.
 //!
 //! - `amounts`: columns, vectors and records of every size;
-//! - `edges`: receives and records at the points where the rules branch;
-//! - `proposals`: settles that close, and settles that just do not;
+//! - `edges`: vectors and records at the points where the rules branch;
+//! - `proposals`: settles that close or just do not, and proposals to be closed;
 //! - `damage`: lines that are no forms any more, or nearly not;
-//! - here: a call written as a line, and the choice of the next line.
+//! - here: a call written as a line, and the choice of the next record, line, call and
+//!   vector.
 
 pub mod amounts;
 pub mod damage;
@@ -122,6 +123,38 @@ impl Trial {
             }
             None => self.free_call(plant),
         }
+    }
+
+    /// An ASM1 vector to be converted by itself: the sludge, one at an edge of the feed, one
+    /// with a column above its ceiling, or any.
+    pub fn asm1(&mut self, plant: &Plant) -> Asm1 {
+        let (random, scale) = (&mut self.random, &self.scale);
+        let mut v = match random.below(10) {
+            0 | 1 => plant.sludge,
+            2..=5 => edges::receive_to_edge(random, scale, &[0; 13]),
+            _ => amounts::asm1(random, scale),
+        };
+        if random.percent(5) {
+            amounts::put_above(random, &mut v, &ASM1_CEILINGS);
+        }
+        v
+    }
+
+    /// A digester vector to be converted by itself: the digester's, one at the edge of the
+    /// return, one with a column above its ceiling, or any.
+    pub fn digester(&mut self, plant: &Plant) -> Digester {
+        let (random, scale) = (&mut self.random, &self.scale);
+        let mut v = match random.percent(30) {
+            true => plant.digester,
+            false => amounts::digester(random, scale),
+        };
+        if random.percent(40) {
+            edges::short_return(random, &mut v);
+        }
+        if random.percent(5) {
+            amounts::put_above(random, &mut v, &DIGESTER_CEILINGS);
+        }
+        v
     }
 
     /// A call that no step before it asks for.

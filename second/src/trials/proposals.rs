@@ -1,5 +1,6 @@
-//! Settles, made from the digester's own contents: proposals that close, the same
-//! with one figure off, and proposals that put as much COD as they can into inerts.
+//! Proposals, made from the digester's own contents. To settle: those that close, the
+//! same with one figure off, and those that put as much COD as they can into inerts.
+//! To be closed: those that a gas and a sin close, and those that just none does.
 
 use super::amounts;
 use crate::plant::Call;
@@ -21,6 +22,11 @@ const FREE: [usize; 10] = [
     digester::XLI,
 ];
 
+/// The COD columns with nitrogen.
+fn bound() -> Vec<usize> {
+    digester::COD.filter(|&column| nitrogen_of(column) > 0).collect()
+}
+
 /// A settle: most often one that closes, else one that just does not, seldom any.
 pub fn settle(random: &mut Random, old: &Digester) -> Call {
     let (mut gas, mut v) = closing(random, old);
@@ -28,8 +34,7 @@ pub fn settle(random: &mut Random, old: &Digester) -> Call {
         0..=10 => {}
         11..=18 => spoil(random, &mut gas, &mut v),
         _ => {
-            let scale = amounts::Scale::any(random);
-            v = amounts::digester(random, &scale);
+            v = any(random);
             gas = random.sized(u64::MAX);
         }
     }
@@ -69,7 +74,7 @@ fn part(random: &mut Random, amount: u64) -> u64 {
 
 /// Shares COD and TKN out over a proposal's columns; false where a ceiling is in the way.
 fn share_out(random: &mut Random, v: &mut Digester, mut cod: u64, mut tkn: u64) -> bool {
-    let mut bound: Vec<usize> = digester::COD.filter(|&column| nitrogen_of(column) > 0).collect();
+    let mut bound = bound();
     random.shuffle(&mut bound);
     let chance = random.one_of(&[0, 20, 60, 100]);
     for column in bound {
@@ -87,13 +92,18 @@ fn share_out(random: &mut Random, v: &mut Digester, mut cod: u64, mut tkn: u64) 
         v[column] = part(random, min(cod, COD_CEILING));
         cod -= v[column];
     }
-    for column in free {
-        let more = min(cod, COD_CEILING - v[column]);
+    v[digester::SIN] = tkn;
+    fill(v, &free, cod) == 0 && tkn <= TICK_CEILING
+}
+
+/// Adds COD to these columns up to their ceilings, one after another; gives what is left over.
+fn fill(v: &mut Digester, columns: &[usize], mut cod: u64) -> u64 {
+    for &column in columns {
+        let more = min(cod, COD_CEILING.saturating_sub(v[column]));
         v[column] += more;
         cod -= more;
     }
-    v[digester::SIN] = tkn;
-    cod == 0 && tkn <= TICK_CEILING
+    cod
 }
 
 /// Puts one or more figures of a proposal off.
@@ -108,7 +118,7 @@ fn spoil(random: &mut Random, gas: &mut u64, v: &mut Digester) {
             3 => v[digester::CO] = v[digester::CO].wrapping_add(step),
             4 => v[digester::CN] = v[digester::CN].wrapping_add(step),
             5 => move_one(random, v),
-            6 => above_ceiling(random, v),
+            6 => amounts::put_above(random, v, &DIGESTER_CEILINGS),
             7 => wrapped_gas(random, gas, v),
             _ => *gas = u64::MAX - random.below(2),
         }
@@ -122,12 +132,6 @@ fn move_one(random: &mut Random, v: &mut Digester) {
         v[from] -= 1;
         v[to] = v[to].wrapping_add(1);
     }
-}
-
-/// Puts one column just above its ceiling, sic among them.
-fn above_ceiling(random: &mut Random, v: &mut Digester) {
-    let column = random.index(26);
-    v[column] = DIGESTER_CEILINGS[column] + 1;
 }
 
 /// Adds COD and takes it from the gas, below zero, so that only a sum that wraps would close.
@@ -149,4 +153,81 @@ pub fn inert_heavy(old: &Digester, more: i64) -> Digester {
     v[digester::CO] = old[digester::CO];
     v[digester::CN] = old[digester::CN];
     v
+}
+
+/// A proposal for this digester to be closed: as it is, any, or one that closes, brought to an
+/// edge or two. The digester's own sin is changed where that brings the proposal to an edge.
+pub fn to_close(random: &mut Random, old: &mut Digester) -> Digester {
+    let mut v = match random.below(10) {
+        0 => *old,
+        1 => any(random),
+        _ => closing(random, old).1,
+    };
+    for _ in 0..random.one_of(&[0, 1, 1, 1, 2, 3]) {
+        match random.below(8) {
+            0 => cod_edge(random, old, &mut v),
+            1 | 2 => {
+                move_all(random, &mut v, &FREE, &bound());
+                nitrogen_edge(random, old, &v, 0);
+            }
+            3 => {
+                move_all(random, &mut v, &bound(), &FREE);
+                nitrogen_edge(random, old, &v, TICK_CEILING);
+            }
+            4 => put_replaced(random, &mut v),
+            5 => amounts::put_above(random, &mut v, &DIGESTER_CEILINGS),
+            6 => move_one(random, &mut v),
+            _ => one_off(random, &mut v),
+        }
+    }
+    v
+}
+
+/// A digester vector of any scale.
+fn any(random: &mut Random) -> Digester {
+    let scale = amounts::Scale::any(random);
+    amounts::digester(random, &scale)
+}
+
+/// Fills the columns without nitrogen so that a proposal has this digester's COD, or a mg more
+/// or less.
+fn cod_edge(random: &mut Random, old: &Digester, v: &mut Digester) {
+    let mut free = FREE;
+    random.shuffle(&mut free);
+    free.iter().for_each(|&column| v[column] = 0);
+    let wanted = (cod_digester(old) + u128::from(random.below(3))).saturating_sub(1);
+    let missing = wanted.saturating_sub(cod_digester(v));
+    fill(v, &free, missing as u64);
+}
+
+/// Moves all COD of one or more of these columns to those, where a ceiling allows.
+fn move_all(random: &mut Random, v: &mut Digester, from: &[usize], to: &[usize]) {
+    for _ in 0..random.one_of(&[1, 4, 20]) {
+        let (from, to) = (random.one_of(from), random.one_of(to));
+        v[from] = fill(v, &[to], v[from]);
+    }
+}
+
+/// Changes the digester's sin so that the proposal closes with this sin, or a tick more or less;
+/// not where its own sin would be below zero or above its ceiling.
+fn nitrogen_edge(random: &mut Random, old: &mut Digester, v: &Digester, closes: u64) {
+    let off = i128::from(random.below(3)) - 1;
+    let wanted = tkn_but_sin(v) as i128 + i128::from(closes) + off - tkn_but_sin(old) as i128;
+    if (0..=i128::from(TICK_CEILING)).contains(&wanted) {
+        old[digester::SIN] = wanted as u64;
+    }
+}
+
+/// Puts anything into the columns that closing replaces.
+fn put_replaced(random: &mut Random, v: &mut Digester) {
+    let other = any(random);
+    for column in [digester::SIN, digester::CO, digester::CN] {
+        v[column] = other[column];
+    }
+}
+
+/// Puts one column off by one.
+fn one_off(random: &mut Random, v: &mut Digester) {
+    let column = random.index(26);
+    v[column] = v[column].wrapping_add(random.one_of(&[1, u64::MAX]));
 }

@@ -5,8 +5,10 @@
 --   carried-none    where nothing is used, it is what it was
 --   carried-written the same where answers were written
 --   carried-all     where the block is used, that of the run through the whole block
+--   run-printed     what a state has printed stands before what the run prints
+--   written-whole   WrittenLaw
 use mathlib.Core.Bool.{Bool, true, false, cond}
-use mathlib.Core.List.{List, [], _∷_}
+use mathlib.Core.List.{List, [], _∷_, _++_, append-assoc, append-nil}
 use mathlib.Core.Path.{_≡_, refl, sym, ap, _∙_}
 use Prim.Native.Nat.{ℕ, _+_, _-_, _≤_}
 use native.Mathlib.Omega.{arith}
@@ -16,9 +18,10 @@ use lib.Seq.{take-all, take-add}
 use Rattle.vectors.specs.declared.figures.Figures.{Figures}
 use Rattle.lines.specs.declared.blocks.Place.{Place}
 use Rattle.reading.specs.Text.{newline}
-use Rattle.lines.specs.Session.{State, kept, run, ended}
-use Rattle.lines.specs.Blocks.{Desk, blockOf, stateOf, core, carried}
-use Rattle.lines.proofs.Laws.Session.{run-append}
+use Rattle.plant.specs.declared.record.Plant.{Plant}
+use Rattle.lines.specs.Session.{State, start, core, kept, run, ended, answerOf, joined, runBlocks, said, written, WrittenLaw}
+use Rattle.lines.specs.Blocks.{Desk, placeAt, blockOf, stateOf, carried}
+use Rattle.lines.proofs.Laws.Session.{run-append, printed-whole}
 use Rattle.lines.proofs.Laws.Run.{block-state, block-grows}
 
 core-byte : (f : Figures) (t : Bool) (st : State) (b : ℕ)
@@ -53,9 +56,51 @@ pub carried-none : (f : Figures) (block : List ℕ) (st : State) (n : ℕ) → n
 unfolding run
 carried-none f block st n h = ap (λ (k : ℕ). core (run f (core st) (take k block))) (sym h)
 
-pub carried-written : (f : Figures) (block : List ℕ) (st : State) (line : List ℕ) (r w : Place) → w .used ≡ r .used → w .held ≡ r .held → w .plant ≡ r .plant
+pub carried-written : (f : Figures) (block : List ℕ) (st : State) (line : List ℕ) (r w : Place) → w ≡ placeAt (r .used) (r .held) 0 (r .plant)
     → carried r line ≡ core (run f st (take (r .used) block)) → carried w line ≡ core (run f st (take (w .used) block))
-carried-written f block st line r w a b c p = rw (a, b, c) p
+carried-written f block st line r w e p = rw e p
 
 pub carried-all : (f : Figures) (block : List ℕ) (st now : State) (n : ℕ) → length block ≤ n → now ≡ core (run f st (take n block)) → now ≡ core (run f st block)
 carried-all f block st now n h p = p ∙ ap (λ (l : List ℕ). core (run f st l)) (take-all n block h)
+
+-- ---- what is written behind each block
+
+-- what a state has printed already stands before what the run prints
+printed-byte : (f : Figures) (t : Bool) (st : State) (b : ℕ)
+    → cond t (ended f st) (kept st (b ∷ [])) .printed ≡ st .printed ++ cond t (ended f (core st)) (kept (core st) (b ∷ [])) .printed
+printed-byte f true st b = refl
+printed-byte f false st b = sym (append-nil (st .printed))
+
+run-printed : (f : Figures) (st : State) (s : List ℕ) → run f st s .printed ≡ st .printed ++ run f (core st) s .printed
+unfolding run
+run-printed f st [] = sym (append-nil (st .printed))
+run-printed f st (b ∷ s) =
+    let t = eqb b newline in
+    let x = cond t (ended f st) (kept st (b ∷ [])) in
+    let y = cond t (ended f (core st)) (kept (core st) (b ∷ [])) in
+    run-printed f x s
+    ∙ ap (λ (l : List ℕ). l ++ run f (core x) s .printed) (printed-byte f t st b)
+    ∙ append-assoc (st .printed) (y .printed) (run f (core x) s .printed)
+    ∙ ap (λ (z : State). st .printed ++ (y .printed ++ run f z s .printed)) (core-byte f t st b)
+    ∙ ap (λ (l : List ℕ). st .printed ++ l) (sym (run-printed f y s))
+
+blocks-printed : (f : Figures) (st : State) (bs : List (List ℕ)) → said f (runBlocks f st bs) ≡ st .printed ++ said f (runBlocks f (core st) bs)
+unfolding runBlocks
+blocks-printed f st [] = refl
+blocks-printed f st (b ∷ bs) =
+    let x = run f st b in
+    let y = run f (core st) b in
+    blocks-printed f x bs
+    ∙ ap (λ (l : List ℕ). l ++ said f (runBlocks f (core x) bs)) (run-printed f st b)
+    ∙ append-assoc (st .printed) (y .printed) (said f (runBlocks f (core x) bs))
+    ∙ ap (λ (z : State). st .printed ++ (y .printed ++ said f (runBlocks f z bs))) (core-run f st b)
+    ∙ ap (λ (l : List ℕ). st .printed ++ l) (sym (blocks-printed f y bs))
+
+written-said : (f : Figures) (st : State) (bs : List (List ℕ)) → written f st bs ≡ said f (runBlocks f st bs)
+unfolding written runBlocks
+written-said f st [] = refl
+written-said f st (b ∷ bs) =
+    ap (λ (l : List ℕ). run f st b .printed ++ l) (written-said f (core (run f st b)) bs) ∙ sym (blocks-printed f (run f st b) bs)
+
+pub written-whole : WrittenLaw
+written-whole f p bs = written-said f (start p) bs ∙ printed-whole f p bs

@@ -39,6 +39,7 @@ use Rattle.plant.specs.Answer.{told, refused, unless, first, decide}
 use Rattle.plant.specs.Calls.{receive, feed, settle, giveBack, release, stepBy, step}
 use Rattle.plant.specs.Balance.{after, sumOver, accepted, handedIn, handedOut, gasOf, ifAccepted, receivedBy, releasedBy, gasBy, BalanceLaw}
 use Rattle.plant.proofs.Laws.Record.{thousandths-le}
+use Rattle.plant.proofs.Laws.Calls.{settle-passed}
 use Rattle.plant.proofs.Laws.Decision.{decide-case, first-passed, unless-passed}
 
 -- ---- quantities
@@ -99,15 +100,8 @@ module _ (f : Figures) (q : Quantity f) where
   settle-kept p g v d =
       decide-case (Kept p (call.Settle g) v) p _ _
       (λ e.
-      let e2 = first-passed _ _ (first-passed _ _ e .1) .1 in
-      let e3 = first-passed _ _ e2 in
-      let e4 = first-passed _ _ (e3 .1) in
-      let carried = both-true _ _ (unless-passed _ 9 tt (first-passed _ _ (e4 .1) .0)) in
-      omega (
-        arith,
-        q .settles g p.digester d (eqb-true _ _ (unless-passed _ 7 tt (e3 .0))) (eqb-true _ _ (unless-passed _ 8 tt (e4 .0)))
-            (eqb-true _ _ (carried .0)) (eqb-true _ _ (carried .1)),
-      ))
+      let s = settle-passed f p g d e in
+      omega (arith, q .settles g p.digester d (s .cod) (s .tkn) (s .oxygen) (s .nitrate)))
       (refused-kept p (call.Settle g) v _)
 
   return-kept : (p : Plant) (k : ℕ) (v : List ℕ) → Kept p (call.Return k) v (giveBack f p k)

@@ -3,8 +3,10 @@
 --   stop, pass                a test that fails gives its number; one that holds leaves the decision to the next
 --   stop-number, pass-number  the same of a number that a conversion gives
 --   none                      where no test is left, the outcome stands
---   decide-none, decide-refused, first-pass, first-stop, first-none   the same of a number that a function of the code gives
+--   decide-none, decide-refused, first-pass, first-stop, first-number, first-sent, first-none   the same of a number that a function of the code gives
 --   flag                      a test of what a function gave is a test of what it stands for
+--   number-case               what holds of both sides of a choice by a number holds of the choice
+--   number-none, number-some  the side that a number chooses
 --   decide-case               what holds of the outcome where no refusal applies, and of every refusal, holds of the decision
 --   unless-passed, first-passed   what no refusal tells of the tests
 use mathlib.Core.Bool.{Bool, true, false, cond}
@@ -13,7 +15,7 @@ use mathlib.Core.Path.{_≡_, refl, sym, _∙_}
 use Prim.Native.Nat.{ℕ}
 use native.Mathlib.Omega.{arith}
 use lib.Dec.{T, ltb, ltb→lt, eqb}
-use borrow.Author.Tests.{ne-eqb, eq-eqb, eqb-true}
+use borrow.Author.Tests.{ne-eqb, eq-eqb, eqb-true, eqb-false}
 use Rattle.plant.specs.declared.record.Plant.{Plant}
 use Rattle.plant.specs.declared.answer.Outcome.{Outcome}
 use Rattle.plant.specs.Answer.{refused, unless, first, decide}
@@ -59,6 +61,15 @@ pub first-stop : (b : Bool) (n : ℕ) (ns : List ℕ) → T (ltb 0 n) → b ≡ 
 unfolding first unless
 first-stop b n ns h f = rw (f, ne-eqb n 0 (λ z. absurd (omega (arith, ltb→lt 0 n h))))
 
+-- the same of a number that stands first
+pub first-number : (n : ℕ) (ns : List ℕ) {x : ℕ} → n ≡ 0 → x ≡ first ns → x ≡ first (n ∷ ns)
+unfolding first
+first-number n ns h e = rw (eq-eqb n 0 h) e
+
+pub first-sent : (n : ℕ) (ns : List ℕ) → (n ≡ 0 → ⊥) → n ≡ first (n ∷ ns)
+unfolding first
+first-sent n ns h = rw (ne-eqb n 0 h)
+
 pub first-none : 0 ≡ first []
 unfolding first
 first-none = refl
@@ -69,13 +80,23 @@ flag e t = sym e ∙ t
 
 -- ---- from a decision to its tests
 
+-- a choice by a number: what holds where it is 0, and where it is not, holds of the choice
+pub number-case : {A : Type 0} (P : A → Type 0) (n : ℕ) (a b : A) → (n ≡ 0 → P a) → ((n ≡ 0 → ⊥) → P b) → P (cond (eqb n 0) a b)
+number-case P n a b none some = go (eqb n 0) refl
+  where
+    go : (t : Bool) → eqb n 0 ≡ t → P (cond t a b)
+    go true e = none (eqb-true n 0 e)
+    go false e = some (eqb-false n 0 e)
+
+pub number-none : {A : Type 0} (n : ℕ) (a b : A) → n ≡ 0 → cond (eqb n 0) a b ≡ a
+number-none n a b h = rw (eq-eqb n 0 h)
+
+pub number-some : {A : Type 0} (n : ℕ) (a b : A) → (n ≡ 0 → ⊥) → cond (eqb n 0) a b ≡ b
+number-some n a b h = rw (ne-eqb n 0 h)
+
 pub decide-case : (P : Outcome → Type 0) (p : Plant) (n : ℕ) (o : Outcome) → (n ≡ 0 → P o) → P (refused p n) → P (decide p n o)
 unfolding decide
-decide-case P p n o taken sent = go (eqb n 0) refl
-  where
-    go : (b : Bool) → eqb n 0 ≡ b → P (cond b o (refused p n))
-    go true e = taken (eqb-true n 0 e)
-    go false e = sent
+decide-case P p n o taken sent = number-case P n o (refused p n) taken (λ e. sent)
 
 pub first-passed : (n : ℕ) (ns : List ℕ) → first (n ∷ ns) ≡ 0 → (n ≡ 0) × (first ns ≡ 0)
 unfolding first

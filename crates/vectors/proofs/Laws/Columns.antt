@@ -1,7 +1,8 @@
 -- Laws of vectors of columns: loops that rewrite one, ceilings, sums. Assumes nothing.
 --
 --   Filled               a loop that replaces the columns of one vector by those of another, from the front
---   within-..            the ceiling test: at a column, one turn of a loop, its end, as inequalities
+--   within-..            the ceiling test: at a column, one turn of a loop, its end, as inequalities; below-within from these
+--   columnsFrom          columns by their places, and digester-columns by their names
 --   added-..             the sum: its length, a column
 --   top, within-top      the highest ceiling of a table bounds every column
 --   added-fits           so that sums fit 64 bits
@@ -13,10 +14,10 @@ use native.Mathlib.Nat.{le-trans, zero-add, add-zero, add-suc, suc-add}
 use native.Mathlib.Numerals.{add-one}
 use native.Mathlib.Omega.{arith}
 use lib.Dec.{leb}
-use lib.ListN.{length, getD, take, drop, set, length-set}
-use lib.Seq.{paste-suc, drop-paste, getD-drop}
+use lib.ListN.{length, getD, take, drop, set, length-set, drop-of-length-le}
+use lib.Seq.{paste-suc, drop-paste, getD-drop, drop-cons}
 use borrow.Author.Tests.{leb-true, le-leb, lt-leb}
-use Rattle.vectors.specs.Columns.{within, Below, BelowFrom, added}
+use Rattle.vectors.specs.Columns.{digester, digesterColumns, within, Below, BelowFrom, added}
 
 -- ---- a loop that fills
 
@@ -122,6 +123,34 @@ within-below cs v e = go cs 0 (λ j. rw zero-add (within-column cs v j e))
     go : (ds : List ℕ) (i : ℕ) → ((j : ℕ) → getD v (i + j) 0 ≤ getD ds j 0) → BelowFrom i ds v
     go [] i h = tt
     go (d ∷ ds) i h = (rw add-zero at (h 0), go ds (suc i) (λ j. rw (add-suc, ← suc-add) at (h (suc j))))
+
+-- and from the inequalities to the test
+pub below-within : (cs v : List ℕ) → length v ≤ length cs → Below cs v → within cs v ≡ true
+unfolding within
+below-within cs v n b = go 0 cs v n (λ j. ap (λ (k : ℕ). getD v k 0) (sym (zero-add j))) b
+  where
+    go : (i : ℕ) (ds w : List ℕ) → length w ≤ length ds → ((j : ℕ) → getD w j 0 ≡ getD v (i + j) 0) → BelowFrom i ds v → within ds w ≡ true
+    go i ds [] n e b = refl
+    go i [] (x ∷ w) n e b = absurd (omega arith)
+    go i (d ∷ ds) (x ∷ w) n e b =
+        let h : x ≡ getD v i 0 = e 0 ∙ ap (λ (k : ℕ). getD v k 0) (add-zero i) in
+        rw (le-leb x d (omega (arith, b .0)))
+        (go (suc i) ds w (omega arith) (λ j. e (suc j) ∙ ap (λ (k : ℕ). getD v k 0) (add-suc i j ∙ sym (suc-add i j))) (b .1))
+
+-- ---- columns by their places
+
+-- n columns from the place i on, which compute
+abbrev pub columnsFrom : ℕ → ℕ → List ℕ → List ℕ
+columnsFrom zero i c = []
+columnsFrom (suc n) i c = getD c i 0 ∷ columnsFrom n (suc i) c
+
+pub columns-from : (n i : ℕ) (c : List ℕ) → i + n ≡ length c → columnsFrom n i c ≡ drop i c
+columns-from zero i c e = let h : length c ≤ i = omega arith in sym (drop-of-length-le c h)
+columns-from (suc n) i c e = ap (λ (l : List ℕ). getD c i 0 ∷ l) (columns-from n (suc i) c (omega arith)) ∙ sym (drop-cons c i 0 (omega arith))
+
+-- an array's columns by their names are its columns
+pub digester-columns : (c : List ℕ) → length c ≡ 26 → digesterColumns (digester c) ≡ c
+digester-columns c e = columns-from 26 0 c (omega arith)
 
 -- the highest ceiling of a table, which computes
 abbrev pub top : List ℕ → ℕ

@@ -5,8 +5,9 @@ use native.Mathlib.Omega.{arith}
 use Prim.Native.Nat.{ℕ, _-_, _≤_}
 use lib.ListN.{length, take}
 use Rattle.vectors.specs.Figures.{house}
-use Rattle.lines.specs.Session.{run}
-use Rattle.lines.specs.Blocks.{Desk, desk, stateOf, core, carried}
+use Rattle.lines.specs.declared.blocks.Place.{Place}
+use Rattle.lines.specs.Session.{core, run}
+use Rattle.lines.specs.Blocks.{Desk, desk, stateOf, carried}
 use Rattle.lines.proofs.Laws.Blocks.{ready-of}
 use Rattle.lines.proofs.Laws.Run.{block-more, block-held}
 use Rattle.lines.proofs.Laws.Carry.{block-carried, carried-none, carried-written, carried-all}
@@ -56,7 +57,8 @@ returns c =
     let a = at-block .before .before .before .before .before .before .before .before .before .args in
     let held = block-held house (a .block .now) (desk (l .q) (l .line) (l .out)) (l .inv .0) in
     let same = ap (λ (x : Desk). x .place .held) (at-block .answer-block .ensures .0) in
-    ((omega (arith, held, same, at-write .write-answers .ensures .1), at-write .write-answers .ensures .3), λ done. absurd (never (sym (c .if2 .taken) ∙ ap not done)))
+    let behind = at-write .write-answers .ensures in
+    ((omega (arith, held, same, ap (λ (x : Place). x .held) behind), ap (λ (x : Place). x .at) behind), λ done. absurd (never (sym (c .if2 .taken) ∙ ap not done)))
 
 loop-less : tie.Need-loop-less Inv-loop μ-loop
 loop-less c =
@@ -69,7 +71,7 @@ loop-less c =
     let block = at-test .before .before .before .before .before .before .args .block .now in
     let more = block-more house block k (ready-of block k (at-test .if1 .taken) (i .0) (i .2) (omega (arith, i .1, i .3))) in
     let used = ap (λ (x : Desk). x .place .used) (at-block .answer-block .ensures .0) in
-    omega (arith, more, used, at-write .write-answers .ensures .0, at-test .if1 .taken)
+    omega (arith, more, used, ap (λ (x : Place). x .used) (at-write .write-answers .ensures), at-test .if1 .taken)
 
 loop-again : tie.Need-loop-again Inv-loop μ-loop
 loop-again c =
@@ -85,8 +87,8 @@ loop-again c =
     let held = block-held house (a .block .now) k (i .0) in
     let same = ap (λ (x : Desk). x .place .held) (b .ensures .0) in
     let run-on = block-carried house (a .block .now) st k (desk (b .result) (b .last .1 .0) (b .last .1 .1 .0)) (b .ensures .0) (i .6) in
-    let behind = carried-written house (a .block .now) st (b .last .1 .0) (b .result) (w .result .place) (w .ensures .0) (w .ensures .1) (w .ensures .2) run-on in
-    (omega (arith, held, same, w .ensures .1), w .ensures .3, omega arith, omega arith, i .4, i .5, behind)
+    let behind = carried-written house (a .block .now) st (b .last .1 .0) (b .result) (w .result .place) (w .ensures) run-on in
+    (omega (arith, held, same, ap (λ (x : Place). x .held) (w .ensures)), ap (λ (x : Place). x .at) (w .ensures), omega arith, omega arith, i .4, i .5, behind)
 
 same-length-3 : tie.Need-same-length-3 Inv-loop μ-loop
 same-length-3 c = search needs

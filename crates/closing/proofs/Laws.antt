@@ -1,0 +1,2 @@
+-- Laws of closing a proposal.
+pub mod Closing

@@ -1,0 +1,101 @@
+//! How many answers of each kind were accepted, and refused by each number.
+
+use second::lines;
+use second::plant::Call;
+use std::ops::RangeInclusive;
+
+/// The kinds of answers: lines by the call they ask, the held line, and the functions that are
+/// called by numbers; a gap that is told stands by where it is.
+const KINDS: [&str; 22] = [
+    "receive",
+    "feed",
+    "settle",
+    "return",
+    "release",
+    "no form",
+    "held",
+    "jilghvani_fresh",
+    "jilghvani_receive",
+    "jilghvani_feed",
+    "jilghvani_settle",
+    "jilghvani_return",
+    "jilghvani_release",
+    "jilghvani_totals",
+    "jilghvani_asm_to_adm",
+    "jilghvani_adm_to_asm",
+    "jilghvani_close",
+    "  settle of what closed",
+    "jilghvani_gap",
+    "  gap in COD",
+    "  gap in TKN",
+    "  gap in sin",
+];
+
+/// Which kind a line is.
+pub fn kind_of(line: &[u8]) -> &'static str {
+    match lines::read(line) {
+        Some(Call::Receive(_)) => "receive",
+        Some(Call::Feed(_)) => "feed",
+        Some(Call::Settle(..)) => "settle",
+        Some(Call::Return(_)) => "return",
+        Some(Call::Release(_)) => "release",
+        None => "no form",
+    }
+}
+
+/// The refusal that an answer's bytes give: 0 accepted, 12 where there are none.
+pub fn refusal_of(answer: &[u8]) -> usize {
+    match answer.strip_prefix(b"(no ").and_then(|rest| rest.strip_suffix(b")")) {
+        Some([unit]) => usize::from(unit - b'0'),
+        Some([ten, unit]) => usize::from(10 * (ten - b'0') + unit - b'0'),
+        _ if answer.is_empty() => 12,
+        _ => 0,
+    }
+}
+
+/// How many answers of each kind had each outcome; outcome 0 is accepted.
+#[derive(Default)]
+pub struct Tally([[u64; 13]; KINDS.len()]);
+
+impl Tally {
+    /// Counts one answer of this kind.
+    pub fn add(&mut self, kind: &str, refusal: usize) {
+        let row = KINDS.iter().position(|name| *name == kind);
+        self.0[row.expect("the kind has a row")][refusal] += 1;
+    }
+
+    /// Adds another tally to this one.
+    pub fn join(&mut self, other: &Tally) {
+        for (kind, outcomes) in other.0.iter().enumerate() {
+            for (refusal, count) in outcomes.iter().enumerate() {
+                self.0[kind][refusal] += count;
+            }
+        }
+    }
+
+    /// All answers with these outcomes.
+    pub fn count(&self, refusals: RangeInclusive<usize>) -> u64 {
+        self.0.iter().map(|outcomes| outcomes[refusals.clone()].iter().sum::<u64>()).sum()
+    }
+
+    /// Prints the sums and a table: a row for each kind, a column for each outcome.
+    pub fn print(&self, title: &str) {
+        let (accepted, refused) = (self.count(0..=0), self.count(1..=12));
+        let total = accepted + refused;
+        println!("{title}: {total} answers compared, {accepted} accepted, {refused} refused");
+        let numbers: String = (1..=12).map(|number| format!("{number:>8}")).collect();
+        println!("  {:<24}{:>9}{numbers}   by refusal", "", "accepted");
+        for (name, outcomes) in KINDS.iter().zip(&self.0) {
+            if outcomes.iter().any(|&count| count > 0) {
+                print_row(name, outcomes);
+            }
+        }
+        print_row("all", &std::array::from_fn(|refusal| self.count(refusal..=refusal)));
+    }
+}
+
+/// Prints a name and how often each outcome was met.
+fn print_row(name: &str, outcomes: &[u64; 13]) {
+    let counts: String = outcomes[1..].iter().map(|count| format!("{count:>8}")).collect();
+    println!("  {name:<24}{:>9}{counts}", outcomes[0]);
+}
