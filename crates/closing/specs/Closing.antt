@@ -1,5 +1,6 @@
--- Closing a proposal. Settle (document 01) wants COD and TKN to the last count, and a solver in floating point never has that. `close` gives the
--- vector and the gas with which settle accepts, and `gap` tells how far off a proposal is. old is the record's digester, d the proposal.
+-- Closing a proposal. Settle (document 01) wants COD and TKN to the last count, and a solver in floating point never has that. `close`
+-- gives the vector and the gas with which settle accepts, and `gap` tells how far off a proposal is. old is the record's digester, d the
+-- proposal.
 --
 --   replaced                  a digester vector with other sin, co and cn
 --   otherTkn                  the TKN of all columns but sin
@@ -12,7 +13,8 @@
 --   OnlyLaw                   and where some would do, close gives them: there are no others
 --   GapLaw                    close is accepted exactly where the gaps are zero
 --
--- proofs/Laws/Closing.antt proves the four laws: close-law, none-law, only-law, gap-law. f is the set of figures; the code has the house set.
+-- proofs/Laws/Closing.antt proves the four laws: close-law, none-law, only-law, gap-law. f is the set of figures; the code has the house
+-- set.
 use mathlib.Core.Bool.{true, cond}
 use mathlib.Core.List.{List, [], _∷_}
 use mathlib.Core.Path.{_≡_}
@@ -107,8 +109,8 @@ gapOf f p d = let n = first (gapTests p d) in cond (eqb n 0) (gapBetween f p.dig
 
 -- ---- close
 
--- as the gap's; then 3 where the sin that closes is above its ceiling, 7 where COD new is above COD old, 8 where the other columns hold more
--- nitrogen than there is
+-- as the gap's; then 3 where the sin that closes is above its ceiling, 7 where COD new is above COD old, 8 where the other columns hold
+-- more nitrogen than there is
 abbrev pub closeTests : Gaps → List ℕ
 closeTests g =
     g .refusal

@@ -12,7 +12,8 @@
 --   PrintedLaw                   however an input falls into blocks, the answers on the way and then the end are what is printed for it.
 --                                proofs/Laws/Session.antt proves it: printed-whole
 --   written, WrittenLaw          the same where the answers are written behind each block: proofs/Laws/Carry.antt, written-whole
---   FileLaw                      for any input, its accepted lines' sums balance against its held line. proofs/Laws/File.antt proves it: file
+--   FileLaw                      for any input, its accepted lines' sums balance against its held line. proofs/Laws/File.antt proves it:
+-- file
 --
 -- f is the set of figures; the program has the house set.
 use mathlib.Core.Bool.{cond}
@@ -163,4 +164,5 @@ pub record FileBalanced (f : Figures) (rs : List Request) (held : HeldTotals) : 
   pub nitrate : received f rs asm1Nitrate ≡ held .nitrate .0 + released f rs asm1Nitrate + nitrateReduced f rs
 
 abbrev pub FileLaw : Type 0
-FileLaw = (f : Figures) → Permitted f → (s : List ℕ) → FileBalanced f (requests (cutLines s)) (heldOf f (afterLines f freshPlant (cutLines s)))
+FileLaw = (f : Figures) → Permitted f → (s : List ℕ)
+    → FileBalanced f (requests (cutLines s)) (heldOf f (afterLines f freshPlant (cutLines s)))

@@ -1,6 +1,6 @@
 // The conversation: standard input in blocks, and the answers on standard output. What is printed is `printed` of crates/lines/specs. The
-// functions below `talk_over` promise what is carried from block to block; what no contract reaches is in docs/DECISIONS.md, "What is proved
-// of the program".
+// functions below `talk_over` promise what is carried from block to block; what no contract reaches is in docs/DECISIONS.md, "What is
+// proved of the program".
 ghost use mathlib.Core.Bool.{true};
 ghost use mathlib.Core.Path.{_≡_};
 ghost use Prim.Native.Nat.{_≤_};

@@ -150,12 +150,14 @@ settles f p d t =
     let fitted : within digesterCeilings v ≡ true = replaced-within d _ _ _ (t .proposed) (t .sin) (omega arith) (omega arith) in
     let cod : digesterCod old ≡ digesterCod v + closingGas old d = omega (arith, t .cod) in
     let tkn : digesterTkn f old ≡ digesterTkn f v = omega (arith, t .tkn) in
+    let oxygen = eq-eqb (digesterOxygen old) (digesterOxygen old) refl in
+    let nitrate = eq-eqb (digesterNitrate old) (digesterNitrate old) refl in
     sym
     (first-pass _ 1 _ (t .held)
     (first-pass _ 3 _ fitted
     (first-pass _ 7 _ (eq-eqb _ _ cod)
     (first-pass _ 8 _ (eq-eqb _ _ tkn)
-    (first-pass _ 9 _ (rw (eq-eqb (digesterOxygen old) (digesterOxygen old) refl) (eq-eqb (digesterNitrate old) (digesterNitrate old) refl)) first-none)))))
+    (first-pass _ 9 _ (rw oxygen nitrate) first-none)))))
 
 pub close-law : CloseLaw
 close-law f p d e =

@@ -21,7 +21,8 @@ refusal-by-requires : tie.Need-refusal-by-requires
 refusal-by-requires c κs = search needs
 
 -- the number is that of the proposal's gap
-by-gap : (c : tie.After-refusal-by) → let a = c .before .before .args in c .refusal-by .result ≡ first (closeTests (gapOf house (a .plant) (a .d)))
+by-gap : (c : tie.After-refusal-by)
+    → let a = c .before .before .args in c .refusal-by .result ≡ first (closeTests (gapOf house (a .plant) (a .d)))
 by-gap c = c .refusal-by .ensures ∙ ap (λ (g : Gaps). first (closeTests g)) (c .before .gap .ensures)
 
 closing-of-requires : tie.Need-closing-of-requires

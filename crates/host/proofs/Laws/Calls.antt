@@ -27,21 +27,26 @@ use Rattle.lines.specs.declared.asking.LineOutcome.{LineOutcome}
 use Rattle.lines.specs.declared.asking.HeldOutcome.{HeldOutcome}
 use Rattle.lines.specs.Asking.{lineOutcome, lineText, LineAnswered, HeldAnswered}
 use Rattle.host.specs.Record.{plantAt, columnsAt}
-use Rattle.host.specs.Calls.{LineCalled, HeldCalled, Called, CalledOut, TotalsCalled, AsmToAdmCalled, AdmToAsmCalled, CloseCalled, GapCalled}
+use Rattle.host.specs.Calls.{LineCalled, HeldCalled, Called, CalledOut, TotalsCalled, AsmToAdmCalled, AdmToAsmCalled}
+use Rattle.host.specs.Calls.{CloseCalled, GapCalled}
 use Rattle.host.specs.Calls.{totalsOf, fedOf, threeOf}
 
 module _ {f : Figures} {cs : List ℕ} {p : Plant} (at : p ≡ plantAt cs) where
-  pub line-called : {s d es e : List ℕ} {r : LineOutcome} → LineAnswered f p s d r e → es ≡ columnsAt (r .outcome .plant) → LineCalled f cs s d (r .length) es e
+  pub line-called : {s d es e : List ℕ} {r : LineOutcome} → LineAnswered f p s d r e → es ≡ columnsAt (r .outcome .plant)
+      → LineCalled f cs s d (r .length) es e
   line-called {s} {d} {es} {e} {r} a q = record {
-    columns = q ∙ ap (λ (o : Outcome). columnsAt (o .plant)) (a .outcome) ∙ ap (λ (x : Plant). columnsAt (lineOutcome f (length d) x s .plant)) at;
+    columns = q ∙ ap (λ (o : Outcome). columnsAt (o .plant)) (a .outcome)
+        ∙ ap (λ (x : Plant). columnsAt (lineOutcome f (length d) x s .plant)) at;
     text = subst (λ (x : Plant). Answered d (lineText f (length d) x s) (r .length) e) at (a .text);
   }
 
   pub held-called : {d e : List ℕ} {r : HeldOutcome} → HeldAnswered f p d r e → HeldCalled f cs d (r .length) e
-  held-called {d} {e} {r} a = record { text = subst (λ (x : Plant). Answered d (fitting (length d) (heldText (heldOf f x))) (r .length) e) at (a .text) }
+  held-called {d} {e} {r} a =
+      record { text = subst (λ (x : Plant). Answered d (fitting (length d) (heldText (heldOf f x))) (r .length) e) at (a .text) }
 
   -- a call of the record by numbers, and what it hands out
-  pub called : {q : Request} {n : ℕ} {es : List ℕ} {o : Outcome} → o ≡ step f p q → (es ≡ columnsAt (o .plant)) × (n ≡ told (o .answer) .number)
+  pub called : {q : Request} {n : ℕ} {es : List ℕ} {o : Outcome} → o ≡ step f p q
+      → (es ≡ columnsAt (o .plant)) × (n ≡ told (o .answer) .number)
       → Called f cs q n es
   called {q} e c =
       let w = e ∙ ap (λ (x : Plant). step f x q) at in
@@ -78,7 +83,8 @@ module _ {f : Figures} {cs : List ℕ} {p : Plant} (at : p ≡ plantAt cs) where
 pub asm-to-adm-called : {f : Figures} {v : List ℕ} {o : Fed} → o ≡ asmToAdm f v → AsmToAdmCalled f v (o .refusal) (o .vector) (fedOf o)
 asm-to-adm-called e = record { refusal = ap (λ (x : Fed). x .refusal) e; vector = ap (λ (x : Fed). x .vector) e; told = ap fedOf e }
 
-pub adm-to-asm-called : {f : Figures} {v : List ℕ} {o : Returned} → o ≡ admToAsm f v → AdmToAsmCalled f v (o .refusal) (o .vector) (o .stripped .0 ∷ [])
+pub adm-to-asm-called : {f : Figures} {v : List ℕ} {o : Returned} → o ≡ admToAsm f v
+    → AdmToAsmCalled f v (o .refusal) (o .vector) (o .stripped .0 ∷ [])
 adm-to-asm-called e = record {
   refusal = ap (λ (x : Returned). x .refusal) e;
   vector = ap (λ (x : Returned). x .vector) e;

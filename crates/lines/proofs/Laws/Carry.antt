@@ -56,11 +56,13 @@ pub carried-none : (f : Figures) (block : List ℕ) (st : State) (n : ℕ) → n
 unfolding run
 carried-none f block st n h = ap (λ (k : ℕ). core (run f (core st) (take k block))) (sym h)
 
-pub carried-written : (f : Figures) (block : List ℕ) (st : State) (line : List ℕ) (r w : Place) → w ≡ placeAt (r .used) (r .held) 0 (r .plant)
+pub carried-written : (f : Figures) (block : List ℕ) (st : State) (line : List ℕ) (r w : Place)
+    → w ≡ placeAt (r .used) (r .held) 0 (r .plant)
     → carried r line ≡ core (run f st (take (r .used) block)) → carried w line ≡ core (run f st (take (w .used) block))
 carried-written f block st line r w e p = rw e p
 
-pub carried-all : (f : Figures) (block : List ℕ) (st now : State) (n : ℕ) → length block ≤ n → now ≡ core (run f st (take n block)) → now ≡ core (run f st block)
+pub carried-all : (f : Figures) (block : List ℕ) (st now : State) (n : ℕ) → length block ≤ n → now ≡ core (run f st (take n block))
+    → now ≡ core (run f st block)
 carried-all f block st now n h p = p ∙ ap (λ (l : List ℕ). core (run f st l)) (take-all n block h)
 
 -- ---- what is written behind each block
@@ -84,7 +86,8 @@ run-printed f st (b ∷ s) =
     ∙ ap (λ (z : State). st .printed ++ (y .printed ++ run f z s .printed)) (core-byte f t st b)
     ∙ ap (λ (l : List ℕ). st .printed ++ l) (sym (run-printed f y s))
 
-blocks-printed : (f : Figures) (st : State) (bs : List (List ℕ)) → said f (runBlocks f st bs) ≡ st .printed ++ said f (runBlocks f (core st) bs)
+blocks-printed : (f : Figures) (st : State) (bs : List (List ℕ))
+    → said f (runBlocks f st bs) ≡ st .printed ++ said f (runBlocks f (core st) bs)
 unfolding runBlocks
 blocks-printed f st [] = refl
 blocks-printed f st (b ∷ bs) =

@@ -37,7 +37,8 @@ use Rattle.plant.specs.declared.answer.Outcome.{Outcome}
 use Rattle.plant.specs.Record.{freshPlant, thousandths}
 use Rattle.plant.specs.Answer.{told, refused, unless, first, decide}
 use Rattle.plant.specs.Calls.{receive, feed, settle, giveBack, release, stepBy, step}
-use Rattle.plant.specs.Balance.{after, sumOver, accepted, handedIn, handedOut, gasOf, ifAccepted, receivedBy, releasedBy, gasBy, BalanceLaw}
+use Rattle.plant.specs.Balance.{after, sumOver, accepted, handedIn, handedOut, gasOf, ifAccepted, receivedBy, releasedBy}
+use Rattle.plant.specs.Balance.{gasBy, BalanceLaw}
 use Rattle.plant.proofs.Laws.Record.{thousandths-le}
 use Rattle.plant.proofs.Laws.Calls.{settle-passed}
 use Rattle.plant.proofs.Laws.Decision.{decide-case, first-passed, unless-passed}
@@ -54,7 +55,7 @@ record Quantity (f : Figures) : Type 0 where
   refuses : (c : Call) (n : ℕ) → lost c (Refused n) ≡ 0
   receives : lost call.Receive Received ≡ 0
   feeds : (k : ℕ) (c : List ℕ) → feedOf f c .refusal ≡ 0
-      → asm1 c ≡ digester (feedOf f c .vector) + lost (call.Feed k) (Fed (feedOf f c .burnt) (feedOf f c .oxygen) (feedOf f c .nitrate) (feedOf f c .warn))
+      → let o = feedOf f c in asm1 c ≡ digester (o .vector) + lost (call.Feed k) (Fed (o .burnt) (o .oxygen) (o .nitrate) (o .warn))
   settles : (g : Milligrams) (a d : List ℕ) → digesterCod a ≡ digesterCod d + g .0 → digesterTkn f a ≡ digesterTkn f d
       → digesterOxygen a ≡ digesterOxygen d → digesterNitrate a ≡ digesterNitrate d → digester a ≡ digester d + lost (call.Settle g) Settled
   returns : (k : ℕ) (c : List ℕ) → returnOf f c .refusal ≡ 0
@@ -71,7 +72,8 @@ module _ (f : Figures) (q : Quantity f) where
   -- the call c, handed v, with the outcome o
   abbrev Kept : Plant → Call → List ℕ → Outcome → Type 0
   Kept p c v o =
-      inTanks p + ifAccepted o (handedIn (q .asm1) c v) ≡ inTanks (o .plant) + ifAccepted o (handedOut (q .asm1) c (o .vector)) + q .lost c (o .answer)
+      inTanks p + ifAccepted o (handedIn (q .asm1) c v)
+      ≡ inTanks (o .plant) + ifAccepted o (handedOut (q .asm1) c (o .vector)) + q .lost c (o .answer)
 
   refused-kept : (p : Plant) (c : Call) (v : List ℕ) (n : ℕ) → Kept p c v (refused p n)
   refused-kept p c v n = omega (arith, q .refuses c n)
@@ -92,7 +94,8 @@ module _ (f : Figures) (q : Quantity f) where
       let e1 = first-passed _ _ e .1 in
       let e2 = first-passed _ _ e1 in
       let h = passed-le k (e2 .0) in
-      omega (arith, q .asm1-linear .splits k h p.sludge, q .digester-linear .adds p.digester (feedOf f c .vector), q .feeds k c (first-passed _ _ (e2 .1) .0)))
+      let fed = q .feeds k c (first-passed _ _ (e2 .1) .0) in
+      omega (arith, q .asm1-linear .splits k h p.sludge, q .digester-linear .adds p.digester (feedOf f c .vector), fed))
       (refused-kept p (call.Feed k) v _)
 
   settle-kept : (p : Plant) (g : Milligrams) (v d : List ℕ) → Kept p (call.Settle g) v (settle f p g d)
@@ -112,7 +115,8 @@ module _ (f : Figures) (q : Quantity f) where
       (λ e.
       let e2 = first-passed _ _ (first-passed _ _ e .1) in
       let h = passed-le k (e2 .0) in
-      omega (arith, q .digester-linear .splits k h p.digester, q .asm1-linear .adds p.reject (returnOf f c .vector), q .returns k c (first-passed _ _ (e2 .1) .0)))
+      let given = q .returns k c (first-passed _ _ (e2 .1) .0) in
+      omega (arith, q .digester-linear .splits k h p.digester, q .asm1-linear .adds p.reject (returnOf f c .vector), given))
       (refused-kept p (call.Return k) v _)
 
   release-kept : (p : Plant) (k : ℕ) (v : List ℕ) → Kept p (call.Release k) v (release p k)
@@ -135,7 +139,8 @@ module _ (f : Figures) (q : Quantity f) where
   let-go r o = q .lost (r .call) (o .answer)
 
   over : (p : Plant) (rs : List Request)
-      → inTanks p + sumOver (receivedBy (q .asm1)) f p rs ≡ inTanks (after f p rs) + sumOver (releasedBy (q .asm1)) f p rs + sumOver let-go f p rs
+      → inTanks p + sumOver (receivedBy (q .asm1)) f p rs
+      ≡ inTanks (after f p rs) + sumOver (releasedBy (q .asm1)) f p rs + sumOver let-go f p rs
   over p [] = omega arith
   over p (r ∷ rs) = omega (arith, step-kept p (r .call) (r .sludge) (r .digester), over (step f p r .plant) rs)
 

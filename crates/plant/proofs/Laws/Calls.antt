@@ -24,7 +24,8 @@ use Rattle.plant.specs.declared.answer.Outcome.{Outcome}
 use Rattle.plant.specs.declared.answer.Told.{Told}
 use Rattle.plant.specs.Record.{recordWithin}
 use Rattle.plant.specs.Answer.{nothing, told, refused, first, decide}
-use Rattle.plant.specs.Calls.{receive, feed, settle, giveBack, release, step, stepBy, settleTests, testsBy, tellsBy, toldOf, TellsLaw, ExactLaw}
+use Rattle.plant.specs.Calls.{receive, feed, settle, giveBack, release, step, stepBy, settleTests, testsBy, tellsBy, toldOf}
+use Rattle.plant.specs.Calls.{TellsLaw, ExactLaw}
 use Rattle.plant.proofs.Laws.Decision.{first-passed, unless-passed}
 
 decide-told : (p : Plant) (n : ℕ) (o : Outcome) → told (decide p n o .answer) ≡ cond (eqb n 0) (told (o .answer)) (nothing n)

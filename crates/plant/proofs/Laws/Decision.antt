@@ -3,7 +3,8 @@
 --   stop, pass                a test that fails gives its number; one that holds leaves the decision to the next
 --   stop-number, pass-number  the same of a number that a conversion gives
 --   none                      where no test is left, the outcome stands
---   decide-none, decide-refused, first-pass, first-stop, first-number, first-sent, first-none   the same of a number that a function of the code gives
+--   decide-none, decide-refused          the same of a number that a function of the code gives
+--   first-pass, first-stop, first-number, first-sent, first-none   and of the tests that it went through
 --   flag                      a test of what a function gave is a test of what it stands for
 --   number-case               what holds of both sides of a choice by a number holds of the choice
 --   number-none, number-some  the side that a number chooses
@@ -31,11 +32,13 @@ module _ (p : Plant) (o : Outcome) where
   unfolding first
   pass-number n ns h e = rw (eq-eqb n 0 h) e
 
-  pub stop : (b : Bool) (n : ℕ) (ns : List ℕ) {x : Outcome} → T (ltb 0 n) → b ≡ false → x ≡ refused p n → x ≡ decide p (first (unless b n ∷ ns)) o
+  pub stop : (b : Bool) (n : ℕ) (ns : List ℕ) {x : Outcome} → T (ltb 0 n) → b ≡ false → x ≡ refused p n
+      → x ≡ decide p (first (unless b n ∷ ns)) o
   unfolding unless
   stop b n ns h f e = rw f (stop-number n ns (λ z. absurd (omega (arith, ltb→lt 0 n h))) e)
 
-  pub pass : (b : Bool) (n : ℕ) (ns : List ℕ) {x : Outcome} → b ≡ true → x ≡ decide p (first ns) o → x ≡ decide p (first (unless b n ∷ ns)) o
+  pub pass : (b : Bool) (n : ℕ) (ns : List ℕ) {x : Outcome} → b ≡ true → x ≡ decide p (first ns) o
+      → x ≡ decide p (first (unless b n ∷ ns)) o
   unfolding unless
   pass b n ns f e = rw f (pass-number 0 ns refl e)
 

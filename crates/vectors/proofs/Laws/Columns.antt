@@ -107,12 +107,15 @@ module _ (cs v : List ℕ) (i : ℕ) {new : Bool} where
   pub within-over : getD cs i 0 < getD v i 0 → new ≡ false → cond new (within (drop (i + 1) cs) (drop (i + 1) v)) false ≡ within cs v
   within-over h e = ap (λ (t : Bool). cond t (within (drop (i + 1) cs) (drop (i + 1) v)) false) e ∙ sym (within-above cs v i h)
 
-  pub within-on : {ok : Bool} → length v ≡ length cs → i < length v → getD v i 0 ≤ getD cs i 0 → new ≡ ok → cond ok (within (drop i cs) (drop i v)) false ≡ within cs v
+  pub within-on : {ok : Bool} → length v ≡ length cs → i < length v → getD v i 0 ≤ getD cs i 0 → new ≡ ok
+      → cond ok (within (drop i cs) (drop i v)) false ≡ within cs v
       → cond new (within (drop (i + 1) cs) (drop (i + 1) v)) false ≡ within cs v
   within-on {ok} n h p e q =
-      ap (λ (t : Bool). cond t (within (drop (i + 1) cs) (drop (i + 1) v)) false) e ∙ ap (λ (t : Bool). cond ok t false) (sym (within-step cs v i n h p)) ∙ q
+      ap (λ (t : Bool). cond t (within (drop (i + 1) cs) (drop (i + 1) v)) false) e
+      ∙ ap (λ (t : Bool). cond ok t false) (sym (within-step cs v i n h p)) ∙ q
 
-pub within-told : (ok : Bool) (cs v : List ℕ) (i : ℕ) → length v ≤ i → cond ok (within (drop i cs) (drop i v)) false ≡ within cs v → ok ≡ within cs v
+pub within-told : (ok : Bool) (cs v : List ℕ) (i : ℕ) → length v ≤ i → cond ok (within (drop i cs) (drop i v)) false ≡ within cs v
+    → ok ≡ within cs v
 within-told true cs v i h e = sym (within-end (drop i cs) v i h) ∙ e
 within-told false cs v i h e = e
 
@@ -146,7 +149,8 @@ columnsFrom (suc n) i c = getD c i 0 ∷ columnsFrom n (suc i) c
 
 pub columns-from : (n i : ℕ) (c : List ℕ) → i + n ≡ length c → columnsFrom n i c ≡ drop i c
 columns-from zero i c e = let h : length c ≤ i = omega arith in sym (drop-of-length-le c h)
-columns-from (suc n) i c e = ap (λ (l : List ℕ). getD c i 0 ∷ l) (columns-from n (suc i) c (omega arith)) ∙ sym (drop-cons c i 0 (omega arith))
+columns-from (suc n) i c e = ap (λ (l : List ℕ). getD c i 0 ∷ l) (columns-from n (suc i) c (omega arith))
+    ∙ sym (drop-cons c i 0 (omega arith))
 
 -- an array's columns by their names are its columns
 pub digester-columns : (c : List ℕ) → length c ≡ 26 → digesterColumns (digester c) ≡ c
@@ -184,5 +188,6 @@ added-length (x ∷ a) (y ∷ b) e = ap suc (added-length a b (omega arith))
 pub added-top : (cs a b : List ℕ) → within cs (added a b) ≡ true → (i : ℕ) → getD a i 0 + getD b i 0 ≤ top cs
 added-top cs a b e i = rw (← added-column a b i) (within-top cs (added a b) e i)
 
-pub added-fits : (cs a b : List ℕ) → top cs < 18446744073709551616 → within cs (added a b) ≡ true → (i : ℕ) → getD a i 0 + getD b i 0 < 18446744073709551616
+pub added-fits : (cs a b : List ℕ) → top cs < 18446744073709551616 → within cs (added a b) ≡ true → (i : ℕ)
+    → getD a i 0 + getD b i 0 < 18446744073709551616
 added-fits cs a b h e i = omega (arith, added-top cs a b e i)

@@ -21,7 +21,8 @@ returns : tie.Need-returns
 returns c =
     let at-stripped = c .before .before in
     let at-return = at-stripped .before in
-    called-out (at-return .before .plant-at .ensures) strippedOf (at-return .give-back .ensures .0) (c .put-outcome .ensures) (at-stripped .stripped-of .ensures)
+    let told = at-stripped .stripped-of .ensures in
+    called-out (at-return .before .plant-at .ensures) strippedOf (at-return .give-back .ensures .0) (c .put-outcome .ensures) told
 
 pub jilghvani-return-spec : {M : Type 1} → statement M
 jilghvani-return-spec =

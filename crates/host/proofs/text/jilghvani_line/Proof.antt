@@ -17,7 +17,9 @@ same-length : tie.Need-same-length
 same-length c = search needs
 
 returns : tie.Need-returns
-returns c = line-called (c .before .before .before .before .before .before .before .before .plant-at .ensures) (c .before .before .before .before .before .before .answer-line .ensures) (c .put-plant .ensures)
+returns c =
+    let at-answer = c .before .before .before .before .before .before in
+    line-called (at-answer .before .before .plant-at .ensures) (at-answer .answer-line .ensures) (c .put-plant .ensures)
 
 pub jilghvani-line-spec : {M : Type 1} → statement M
 jilghvani-line-spec =

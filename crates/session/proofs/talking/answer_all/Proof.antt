@@ -57,8 +57,10 @@ returns c =
     let a = at-block .before .before .before .before .before .before .before .before .before .args in
     let held = block-held house (a .block .now) (desk (l .q) (l .line) (l .out)) (l .inv .0) in
     let same = ap (λ (x : Desk). x .place .held) (at-block .answer-block .ensures .0) in
-    let behind = at-write .write-answers .ensures in
-    ((omega (arith, held, same, ap (λ (x : Place). x .held) behind), ap (λ (x : Place). x .at) behind), λ done. absurd (never (sym (c .if2 .taken) ∙ ap not done)))
+    let behind = at-write .write-answers .ensures in (
+      (omega (arith, held, same, ap (λ (x : Place). x .held) behind), ap (λ (x : Place). x .at) behind),
+      λ done. absurd (never (sym (c .if2 .taken) ∙ ap not done)),
+    )
 
 loop-less : tie.Need-loop-less Inv-loop μ-loop
 loop-less c =
@@ -88,7 +90,8 @@ loop-again c =
     let same = ap (λ (x : Desk). x .place .held) (b .ensures .0) in
     let run-on = block-carried house (a .block .now) st k (desk (b .result) (b .last .1 .0) (b .last .1 .1 .0)) (b .ensures .0) (i .6) in
     let behind = carried-written house (a .block .now) st (b .last .1 .0) (b .result) (w .result .place) (w .ensures) run-on in
-    (omega (arith, held, same, ap (λ (x : Place). x .held) (w .ensures)), ap (λ (x : Place). x .at) (w .ensures), omega arith, omega arith, i .4, i .5, behind)
+    let kept = ap (λ (x : Place). x .held) (w .ensures) in
+    (omega (arith, held, same, kept), ap (λ (x : Place). x .at) (w .ensures), omega arith, omega arith, i .4, i .5, behind)
 
 same-length-3 : tie.Need-same-length-3 Inv-loop μ-loop
 same-length-3 c = search needs
@@ -100,7 +103,8 @@ returns-2 : tie.Need-returns-2 Inv-loop μ-loop
 returns-2 c =
     let l = c .before .before .loop in
     let a = c .before .before .before .before .before .before .args in
-    let all = carried-all house (a .block .now) (carried (a .p) (a .line .now)) (carried (l .q) (l .line)) (l .q .used) (omega arith) (l .inv .6) in
+    let st = carried (a .p) (a .line .now) in
+    let all = carried-all house (a .block .now) st (carried (l .q) (l .line)) (l .q .used) (omega arith) (l .inv .6) in
     ((l .inv .0, l .inv .1), λ done. all)
 
 pub answer-all-spec : {M : Type 1} → statement M
