@@ -2,7 +2,10 @@
 // the bytes behind the answer kept their values.
 use plant::Answer;
 use plant::Plant;
+use vectors::Milligrams;
+use vectors::Ticks;
 
+// Buffers of no byte, of one, around 512, and longer than any answer.
 fn main() {
     let mut space = [0u8; 1100];
     first(&mut space, 0);
@@ -21,17 +24,17 @@ fn first(space: &mut [u8], n: usize) {
     }
 }
 
-// Lines of each kind, held lines, and the longest answer.
+// Lines of each kind, held lines, the longest answer, and each kind of answer handed back.
 fn all(buf: &mut [u8]) {
     lines_of_each_kind(buf);
     held(buf, 0);
     held(buf, 1000000000000);
     held(buf, 1000000000001);
     longest(buf);
-    handed_back(buf, 7);
-    handed_back(buf, 18446744073709551615);
+    each_kind_handed_back(buf);
 }
 
+// Lines that are accepted, that are refused, and that are no form.
 fn lines_of_each_kind(buf: &mut [u8]) {
     line(buf, b"(receive (ss 10))");
     line(buf, b"(feed 1)");
@@ -72,10 +75,35 @@ fn longest(buf: &mut [u8]) {
     tell(buf, k);
 }
 
-// The part that the answer writer itself hands back, and a look behind it afterwards: no contract speaks of the bytes there.
-fn handed_back(buf: &mut [u8], n: u64) {
+// An answer of each kind, and a refusal with the longest number.
+fn each_kind_handed_back(buf: &mut [u8]) {
+    let none = [0u64; 13];
+    let v = [1, 2, 3, 4, 5, 6, 7, 8, 9, 10, 11, 12, 13];
+    handed_back(buf, Answer::Received, none);
+    handed_back(buf, fed(), none);
+    handed_back(buf, Answer::Settled, none);
+    let stripped = Milligrams(14);
+    handed_back(buf, Answer::Returned { stripped }, none);
+    handed_back(buf, Answer::Released, v);
+    handed_back(buf, Answer::Refused(7), none);
+    handed_back(buf, Answer::Refused(18446744073709551615), none);
+}
+
+// What a feed tells: four numbers that differ.
+fn fed() -> Answer {
+    Answer::Fed {
+        burnt: Milligrams(33600),
+        oxygen: Milligrams(5000),
+        nitrate: Ticks(100000000),
+        warn: 1,
+    }
+}
+
+// The part that the answer writer itself hands back, and a look behind it afterwards: no contract speaks of the bytes there. Under 512 bytes
+// the part is empty, and the look goes over the whole buffer.
+fn handed_back(buf: &mut [u8], a: Answer, v: [u64; 13]) {
     fill(buf);
-    let part = writing::filled_answer(buf, Answer::Refused(n), [0; 13]);
+    let part = writing::filled_answer(buf, a, v);
     test_show::text(b"handed back [");
     test_show::text(part);
     let k = part.len();
@@ -83,6 +111,7 @@ fn handed_back(buf: &mut [u8], n: u64) {
     tell_behind(buf, k);
 }
 
+// A record with ss in its reject tank.
 fn plant_with(ss: u64) -> Plant {
     let p = plant::fresh();
     let sludge = p.sludge;
@@ -96,11 +125,16 @@ fn plant_with(ss: u64) -> Plant {
     }
 }
 
-// The pattern: a byte that tells its place.
+// The pattern: a byte that goes by its place and is never zero.
+fn mark(i: usize) -> u8 {
+    (i % 251 + 1) as u8
+}
+
+// Writes the pattern.
 fn fill(buf: &mut [u8]) {
     let mut i = 0;
     while i < buf.len() {
-        buf[i] = (i % 251) as u8;
+        buf[i] = mark(i);
         i += 1;
     }
 }
@@ -109,7 +143,7 @@ fn fill(buf: &mut [u8]) {
 fn kept(buf: &[u8], from: usize) -> bool {
     let mut i = from;
     while i < buf.len() {
-        if buf[i] != (i % 251) as u8 {
+        if buf[i] != mark(i) {
             return false;
         }
         i += 1;

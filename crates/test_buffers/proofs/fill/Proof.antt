@@ -15,8 +15,8 @@ abbrev μ-loop : tie.MeasureT-loop
 loop-holds : tie.Need-loop-holds Inv-loop μ-loop
 loop-holds c = search needs
 
-cast-buf : tie.Need-cast-buf Inv-loop μ-loop
-cast-buf c = search needs
+mark-requires : tie.Need-mark-requires Inv-loop μ-loop
+mark-requires c κs = search needs
 
 slice-write-buf : tie.Need-slice-write-buf Inv-loop μ-loop
 slice-write-buf c = search needs
@@ -43,7 +43,7 @@ fill-spec =
     Inv-loop
     μ-loop
     loop-holds
-    cast-buf
+    mark-requires
     slice-write-buf
     add-i
     loop-less

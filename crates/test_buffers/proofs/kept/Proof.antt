@@ -18,8 +18,8 @@ loop-holds c = search needs
 shared-slice-read-if1 : tie.Need-shared-slice-read-if1 Inv-loop μ-loop
 shared-slice-read-if1 c = search needs
 
-cast-if1 : tie.Need-cast-if1 Inv-loop μ-loop
-cast-if1 c = search needs
+mark-requires : tie.Need-mark-requires Inv-loop μ-loop
+mark-requires c κs = search needs
 
 returns : tie.Need-returns Inv-loop μ-loop
 returns c = search needs
@@ -44,7 +44,7 @@ kept-spec =
     μ-loop
     loop-holds
     shared-slice-read-if1
-    cast-if1
+    mark-requires
     returns
     add-i
     loop-less
