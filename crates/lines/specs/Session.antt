@@ -12,8 +12,8 @@
 --   PrintedLaw                   however an input falls into blocks, the answers on the way and then the end are what is printed for it.
 --                                proofs/Laws/Session.antt proves it: printed-whole
 --   written, WrittenLaw          the same where the answers are written behind each block: proofs/Laws/Carry.antt, written-whole
---   FileLaw                      for any input, its accepted lines' sums balance against its held line. proofs/Laws/File.antt proves it:
--- file
+--   FileLaw                      for any input, its accepted lines' sums balance against its held line.
+--                                proofs/Laws/File.antt proves it: file
 --
 -- f is the set of figures; the program has the house set.
 use mathlib.Core.Bool.{cond}

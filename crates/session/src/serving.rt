@@ -72,7 +72,7 @@ fn help_refusals() -> bool {
 \x207, 8, 9 the proposal's COD, TKN, co or cn is not the digester's\n\
 10 a tank's column would pass its ceiling: 10^12 mg or mmol, 10^16 ticks\n\
 11 the line is no form           12 the answer's buffer is short\n\
-The last line is (held cod N tkn N oxygen N nitrate N): without it, the session\n\
-failed, and standard error says why.\n",
+The last line is (held cod N tkn N oxygen N nitrate N). Without it the session\n\
+failed: standard error says why, unless a signal ended it.\n",
     )
 }

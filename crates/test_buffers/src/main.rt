@@ -99,8 +99,8 @@ fn fed() -> Answer {
     }
 }
 
-// The part that the answer writer itself hands back, and a look behind it afterwards: no contract speaks of the bytes there. Under 512 bytes
-// the part is empty, and the look goes over the whole buffer.
+// The part that the answer writer itself hands back, and a look behind it afterwards: no contract speaks of the bytes there. Under 512
+// bytes the part is empty, and the look goes over the whole buffer.
 fn handed_back(buf: &mut [u8], a: Answer, v: [u64; 13]) {
     fill(buf);
     let part = writing::filled_answer(buf, a, v);
