@@ -69,9 +69,9 @@ extern "C" {
 #endif
 
 /* The version of this header, and its three numbers. */
-#define JILGHVANI_VERSION "0.6.0"
+#define JILGHVANI_VERSION "0.7.0"
 #define JILGHVANI_VERSION_MAJOR 0
-#define JILGHVANI_VERSION_MINOR 6
+#define JILGHVANI_VERSION_MINOR 7
 #define JILGHVANI_VERSION_PATCH 0
 
 /* Sizes, and the places of columns: record[JILGHVANI_DIGESTER_AT +
@@ -293,6 +293,18 @@ uint64_t jilghvani_return(uint64_t record[JILGHVANI_COLUMNS], uint64_t k,
  * Record and v must not overlap. Gives 0 or the refusal: 1, 2. */
 uint64_t jilghvani_release(uint64_t record[JILGHVANI_COLUMNS], uint64_t k,
                            uint64_t v[JILGHVANI_ASM1]);
+
+/* Recycle k: draws k thousandths of the reject tank and adds them to the sludge
+ * tank, column by column. It converts nothing and tells nothing, and what the
+ * three tanks hold together stays the same.
+ *
+ * record    the caller's 52 columns, read and written; reject and sludge are
+ *           changed where the call is accepted. A refused one leaves every column
+ *           as it was.
+ * k         the thousandths to draw, 1 to 1000.
+ *
+ * Gives 0 or the refusal: 1, 2, 10. */
+uint64_t jilghvani_recycle(uint64_t record[JILGHVANI_COLUMNS], uint64_t k);
 
 /* Totals: what the three tanks hold together, as in the held line.
  *

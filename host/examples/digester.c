@@ -1,6 +1,7 @@
 /* An example host: a works over twenty days. Each day it receives a thickened
  * sludge, feeds the digester, lets a solver in double precision work on it, closes
- * what the solver proposes, settles, returns and releases. It holds:
+ * what the solver proposes, settles, returns, recycles a part of the reject water
+ * and releases most of the rest. It holds:
  *
  *   - the day's sludge, from concentrations to counts,
  *   - the sums that the host keeps, and the four balances over them,
@@ -19,10 +20,11 @@
 
 enum {
     DAYS = 20,
-    VOLUME = 178,  /* m3 of thickened sludge a day */
-    FED = 950,     /* thousandths of the sludge that are fed a day */
-    RETURNED = 52, /* thousandths of the digester that return a day: 178 of 3400 m3 */
-    RELEASED = 900 /* thousandths of the reject water that are released a day */
+    VOLUME = 178,   /* m3 of thickened sludge a day */
+    FED = 950,      /* thousandths of the sludge that are fed a day */
+    RETURNED = 52,  /* thousandths of the digester that return a day: 178 of 3400 m3 */
+    RECYCLED = 200, /* thousandths of the reject water that go back to the sludge a day */
+    RELEASED = 900  /* thousandths of what is left of it that are released a day */
 };
 
 /* What a cubic metre of thickened sludge holds: COD, oxygen and nitrogen in mg,
@@ -237,6 +239,12 @@ static int give_back(struct works *w, uint64_t *stripped)
     return 1;
 }
 
+/* Recycles reject water; it stays in the works, so that no sum has a term for it. */
+static int recycle(struct works *w)
+{
+    return accepted("recycle", jilghvani_recycle(w->record, RECYCLED));
+}
+
 /* Releases reject water. */
 static int release(struct works *w)
 {
@@ -279,7 +287,7 @@ static int run_day(struct works *w, int day)
         return 0;
     if (day == 1 && (!print_unclosed(w, 2) || !print_unclosed(w, 96)))
         return 0;
-    if (!settle(w, &gas) || !give_back(w, &stripped) || !release(w))
+    if (!settle(w, &gas) || !give_back(w, &stripped) || !recycle(w) || !release(w))
         return 0;
     printf("day %d: burnt %" PRIu64 " gas %" PRIu64 " stripped %" PRIu64 "\n",
            day, burnt, gas, stripped);

@@ -32,6 +32,8 @@ unsafe extern "C" {
     pub safe fn jilghvani_return(record: &mut Record, k: u64, told: &mut [u64; 1]) -> u64;
     /// The same as `numbers::release`.
     pub safe fn jilghvani_release(record: &mut Record, k: u64, v: &mut Asm1) -> u64;
+    /// The same as `numbers::recycle`.
+    pub safe fn jilghvani_recycle(record: &mut Record, k: u64) -> u64;
     /// The same as `numbers::totals`.
     pub safe fn jilghvani_totals(record: &Record, told: &mut [u64; 4]) -> u64;
     /// The same as `numbers::asm_to_adm`.

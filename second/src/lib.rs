@@ -1,11 +1,12 @@
-//! A second implementation of the ASM1 and ADM1 link, written from document 01 and, for
-//! what it has no line for (conversions by themselves, `close`, `gap`), from a description
-//! in words; never from the code of the verified link.
+//! A second implementation of the ASM1 and ADM1 link, written from document 01, from
+//! request E1 of document 02 (recycle) and, for what they have no line for (conversions by
+//! themselves, `close`, `gap`), from a description in words; never from the code of the
+//! verified link.
 //!
 //! The link:
 //! - `tables`: column names, ceilings, the house set, COD and TKN of a vector;
 //! - `convert`: feed and return stage by stage, of a drawn vector and of any by itself;
-//! - `plant`: the record with its three tanks, the five calls, held;
+//! - `plant`: the record with its three tanks, the six calls, held;
 //! - `closing`: what closes in the place of a solver's proposal, and how far off one is;
 //! - `numbers`: every call by numbers, as a host in C makes it;
 //! - `lines`: a line read as a call, an answer written into a lent buffer;
@@ -13,10 +14,12 @@
 //!
 //! For the tools in `src/bin` and for the tests:
 //! - `random`: the generator of their numbers;
+//! - `balances`: the four balances over a list, from its calls and answers;
 //! - `trials`: records, calls, lines, vectors and proposals to try, fair and damaged;
 //! - `outside`: trials of the program's input, output and arguments;
 //! - `host`: the functions of the C library, with the feature `library` alone.
 
+pub mod balances;
 pub mod closing;
 pub mod convert;
 #[cfg(feature = "library")]

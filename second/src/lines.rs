@@ -30,7 +30,10 @@ pub fn read(line: &[u8]) -> Option<Call> {
     if let Some(rest) = inner.strip_prefix(b"return ") {
         return whole_number(rest).map(Call::Return);
     }
-    whole_number(inner.strip_prefix(b"release ")?).map(Call::Release)
+    if let Some(rest) = inner.strip_prefix(b"release ") {
+        return whole_number(rest).map(Call::Release);
+    }
+    whole_number(inner.strip_prefix(b"recycle ")?).map(Call::Recycle)
 }
 
 /// Reads none or more fields, each ` (name N)`, in any order and each at most once.
@@ -185,6 +188,7 @@ fn write<'b>(answer: &Result<Told, Refusal>, buffer: &'b mut [u8]) -> &'b [u8] {
             out.text(b")");
         }
         Ok(Told::Released(v)) => write_released(&mut out, v),
+        Ok(Told::Recycled) => out.text(b"(ok recycle)"),
         Err(refusal) => write_refusal(&mut out, *refusal),
     }
     out.filled()

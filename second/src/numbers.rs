@@ -56,6 +56,11 @@ pub fn release(record: &mut Record, k: u64, v: &mut Asm1) -> u64 {
     on_record(record, v, |plant| plant.release(k))
 }
 
+/// Recycles k thousandths.
+pub fn recycle(record: &mut Record, k: u64) -> u64 {
+    on_record(record, &mut [], |plant| plant.recycle(k).map(|()| []))
+}
+
 /// Tells COD, TKN, oxygen and nitrate of the three tanks.
 pub fn totals(record: &Record, told: &mut [u64; 4]) -> u64 {
     tell(told, Plant::from_columns(record).held().map(|held| held.numbers()))

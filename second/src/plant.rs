@@ -1,4 +1,4 @@
-//! The plant record: sludge, digester and reject tank, the five calls on it, the
+//! The plant record: sludge, digester and reject tank, the six calls on it, the
 //! refusals in their order, and what is held.
 
 use crate::convert::{self, FeedTold};
@@ -22,7 +22,7 @@ pub enum Refusal {
     BufferShort = 12,
 }
 
-/// One of the five calls, with the numbers and the vector it is handed.
+/// One of the six calls, with the numbers and the vector it is handed.
 #[derive(Clone, Debug, PartialEq, Eq)]
 pub enum Call {
     Receive(Asm1),
@@ -30,6 +30,7 @@ pub enum Call {
     Settle(u64, Digester),
     Return(u64),
     Release(u64),
+    Recycle(u64),
 }
 
 /// What an accepted call tells; a release hands its vector out.
@@ -40,6 +41,7 @@ pub enum Told {
     Settled,
     Returned(u64),
     Released(Asm1),
+    Recycled,
 }
 
 /// What the three tanks hold together.
@@ -199,6 +201,16 @@ impl Plant {
         Ok(drawn)
     }
 
+    /// Draws from reject and adds the draw to the sludge tank; tests 1, 2, 10.
+    pub fn recycle(&mut self, k: u64) -> Result<(), Refusal> {
+        self.test_record()?;
+        test_thousandths(k)?;
+        let drawn = draw(&self.reject, k);
+        self.sludge = add(&self.sludge, &drawn, &ASM1_CEILINGS)?;
+        self.reject = rest(&self.reject, &drawn);
+        Ok(())
+    }
+
     /// Makes one call; a refusal leaves the record as it was.
     pub fn call(&mut self, call: &Call) -> Result<Told, Refusal> {
         match call {
@@ -207,6 +219,7 @@ impl Plant {
             Call::Settle(gas, v) => self.settle(*gas, v).map(|()| Told::Settled),
             Call::Return(k) => self.give_back(*k).map(Told::Returned),
             Call::Release(k) => self.release(*k).map(Told::Released),
+            Call::Recycle(k) => self.recycle(*k).map(|()| Told::Recycled),
         }
     }
 

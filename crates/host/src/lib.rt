@@ -17,6 +17,7 @@ pub use conversions::jilghvani_asm_to_adm;
 pub use numbers::jilghvani_feed;
 pub use numbers::jilghvani_fresh;
 pub use numbers::jilghvani_receive;
+pub use numbers::jilghvani_recycle;
 pub use numbers::jilghvani_release;
 pub use numbers::jilghvani_return;
 pub use numbers::jilghvani_settle;

@@ -4,7 +4,7 @@ ghost use Rattle.vectors.specs.Figures.{house};
 ghost use Rattle.vectors.specs.Units.{milligrams};
 ghost use Rattle.plant.specs.Answer.{told};
 ghost use Rattle.plant.specs.Record.{freshPlant};
-ghost use Rattle.plant.specs.Calls.{receiving, feeding, settling, returning, releasing};
+ghost use Rattle.plant.specs.Calls.{receiving, feeding, settling, returning, releasing, recycling};
 ghost use Rattle.host.specs.Record.{columnsAt};
 ghost use Rattle.host.specs.Calls.{Called, CalledOut, fourOf, strippedOf, vectorOf, TotalsCalled};
 use crate::record::plant_at;
@@ -72,6 +72,16 @@ pub extern "C" fn jilghvani_release(columns: &mut [u64; 52], k: u64, v: &mut [u6
     let o = plant::release(p, k);
     let vector = o.vector;
     *v = vector;
+    put_outcome(columns, o)
+}
+
+// Recycle.
+#[no_mangle]
+pub extern "C" fn jilghvani_recycle(columns: &mut [u64; 52], k: u64) -> u64
+    ensures { λ r. ⌜ Called house (now (columns .entry)) (recycling k) r (now (columns .exit)) ⌝ }
+{
+    let p = plant_at(columns);
+    let o = plant::recycle(p, k);
     put_outcome(columns, o)
 }
 

@@ -1,4 +1,4 @@
--- Answers: document 01, "The plant record and its five calls" (what each call tells) and "What the link sends away".
+-- Answers: document 01, "The plant record and its five calls" (what each call tells) and "What the link sends away", and document 02, E1.
 --
 --   Answer, Outcome, Told the enum and the structs of the code
 --   told                  the refusal's number of document 01, or 0, and the values told, for each case of the enum: a refusal tells zeros
@@ -11,7 +11,7 @@ use Prim.Native.Nat.{ℕ}
 use lib.Dec.{eqb}
 use Rattle.plant.specs.declared.record.Plant.{Plant}
 use Rattle.plant.specs.declared.answer.Answer.{Answer}
-use Rattle.plant.specs.declared.answer.Answer.the-variants.{Received, Fed, Settled, Returned, Released, Refused}
+use Rattle.plant.specs.declared.answer.Answer.the-variants.{Received, Fed, Settled, Returned, Released, Recycled, Refused}
 use Rattle.plant.specs.declared.answer.Outcome.{Outcome}
 use Rattle.plant.specs.declared.answer.Told.{Told}
 use Rattle.plant.specs.Record.{noColumns}
@@ -25,6 +25,7 @@ told (Fed b o n w) = record { number = 0; burnt = b .0; oxygen = o .0; nitrate =
 told Settled = nothing 0
 told (Returned s) = record { number = 0; burnt = 0; oxygen = 0; nitrate = 0; warn = 0; stripped = s .0 }
 told Released = nothing 0
+told Recycled = nothing 0
 told (Refused n) = nothing n
 
 abbrev pub refused : Plant → ℕ → Outcome

@@ -1,8 +1,10 @@
--- The balances over a list of calls: document 01, "Demand 3".
+-- The balances over a list of calls: document 01, "Demand 3", and document 02, E1 (a recycle is neither received nor released).
 --
 --   after                                   the record after a list of calls, each on the record that the one before returned
 --   sumOver                                 a number that each call and its outcome give, added up over the list
---   accepted                                an answer that is no refusal
+--   accepted                                an answer that tells no refusal
+--   counts                                  what a call counts for: a receive takes its vector in, a release hands one out, a settle
+--                                           lets gas go; the others, recycles among them, move columns between the tanks alone
 --   received, released                      a total of the vectors handed to accepted receives, and handed out by accepted releases
 --   burnt, oxygenReduced, nitrateReduced    what accepted feeds tell
 --   gas                                     the gas COD handed to accepted settles
@@ -11,17 +13,18 @@
 --   Balanced, BalanceLaw                    the four balances, for every list of calls and every permitted set of figures.
 --                                           proofs/Laws/Balance.antt proves it: balance
 --
--- A list holds everything that is handed to its calls: any k, any gas, any vector of any length, honest or not. Its sums are whole numbers without a ceiling.
+-- A list holds everything that is handed to its calls: any k, any gas, any vector of any length, honest or not. Its sums are whole
+-- numbers without a ceiling.
 use mathlib.Core.Bool.{Bool, true, false, cond}
 use mathlib.Core.List.{List, [], _∷_}
 use mathlib.Core.Path.{_≡_}
 use Prim.Native.Nat.{ℕ, _+_}
+use lib.Dec.{eqb}
 use Rattle.vectors.specs.declared.figures.Figures.{Figures}
 use Rattle.vectors.specs.Figures.{Permitted}
 use Rattle.vectors.specs.Totals.{asm1Cod, asm1Tkn, asm1Oxygen, asm1Nitrate, digesterCod, digesterTkn, digesterOxygen, digesterNitrate}
 use Rattle.plant.specs.declared.record.Plant.{Plant}
 use Rattle.plant.specs.declared.answer.Answer.{Answer}
-use Rattle.plant.specs.declared.answer.Answer.the-variants.{Received, Fed, Settled, Returned, Released, Refused}
 use Rattle.plant.specs.declared.answer.Call.{Call}
 use Rattle.plant.specs.declared.answer.Call.the-variants as call
 use Rattle.plant.specs.declared.answer.Request.{Request}
@@ -43,49 +46,39 @@ sumOver of f p (r ∷ rs) = of r (step f p r) + sumOver of f (step f p r .plant)
 -- ---- what one call adds to the sums, by the call and its answer alone
 
 abbrev pub accepted : Answer → Bool
-accepted Received = true
-accepted (Fed b o n w) = true
-accepted Settled = true
-accepted (Returned s) = true
-accepted Released = true
-accepted (Refused n) = false
+accepted a = eqb (told a .number) 0
 
--- a total of the vector that a receive is handed
-abbrev pub handedIn : (List ℕ → ℕ) → Call → List ℕ → ℕ
-handedIn total call.Receive v = total v
-handedIn total (call.Feed k) v = 0
-handedIn total (call.Settle g) v = 0
-handedIn total (call.Return k) v = 0
-handedIn total (call.Release k) v = 0
+-- what an accepted call counts for: whether the vector that it is handed is received, whether the one that it hands out is released,
+-- and a gas COD
+pub record Counts : Type 0 where
+  pub received : Bool
+  pub released : Bool
+  pub gas : ℕ
 
--- a total of the vector that a release hands out
-abbrev pub handedOut : (List ℕ → ℕ) → Call → List ℕ → ℕ
-handedOut total call.Receive v = 0
-handedOut total (call.Feed k) v = 0
-handedOut total (call.Settle g) v = 0
-handedOut total (call.Return k) v = 0
-handedOut total (call.Release k) v = total v
+-- a call between the tanks
+abbrev pub inside : Counts
+inside = record { received = false; released = false; gas = 0 }
 
--- the gas COD that a settle is handed
-abbrev pub gasOf : Call → ℕ
-gasOf call.Receive = 0
-gasOf (call.Feed k) = 0
-gasOf (call.Settle g) = g .0
-gasOf (call.Return k) = 0
-gasOf (call.Release k) = 0
+abbrev pub counts : Call → Counts
+counts call.Receive = record { received = true; released = false; gas = 0 }
+counts (call.Feed k) = inside
+counts (call.Settle g) = record { received = false; released = false; gas = g .0 }
+counts (call.Return k) = inside
+counts (call.Release k) = record { received = false; released = true; gas = 0 }
+counts (call.Recycle k) = inside
 
 -- a refused call adds nothing
 abbrev pub ifAccepted : Outcome → ℕ → ℕ
 ifAccepted o n = cond (accepted (o .answer)) n 0
 
 abbrev pub receivedBy : (List ℕ → ℕ) → Request → Outcome → ℕ
-receivedBy total r o = ifAccepted o (handedIn total (r .call) (r .sludge))
+receivedBy total r o = ifAccepted o (cond (counts (r .call) .received) (total (r .sludge)) 0)
 
 abbrev pub releasedBy : (List ℕ → ℕ) → Request → Outcome → ℕ
-releasedBy total r o = ifAccepted o (handedOut total (r .call) (o .vector))
+releasedBy total r o = ifAccepted o (cond (counts (r .call) .released) (total (o .vector)) 0)
 
 abbrev pub gasBy : Request → Outcome → ℕ
-gasBy r o = ifAccepted o (gasOf (r .call))
+gasBy r o = ifAccepted o (counts (r .call) .gas)
 
 -- ---- the sums, from a fresh record
 

@@ -1,9 +1,11 @@
--- The five calls: document 01, "The plant record and its five calls". Each is its refusals, in the order in which they are tested, and what it does where none applies.
+-- The calls on the record: document 01, "The plant record and its five calls", and document 02, E1.
 --
---   receive, feed, settle, giveBack, release   the calls; giveBack is 01's return
---   receiveTests, feedTests, ..                their refusals, in the order in which they are tested
+--   Rule                                       what a call is: its refusals, in the order in which they are tested, and its outcome where
+--                                              none applies
+--   receive, feed, settle, giveBack, release   the calls of 01; giveBack is its return
+--   recycle                                    the call of E1
 --   fedTests, fed, settledTests, ..            parts of these that the code's parts cite
---   stepBy, step                               any of them, by a request
+--   ruleBy, stepBy, step                       any of them, by a request
 --   refusalOf                                  the refusal that applies first, or 0
 --   tellsBy, toldOf                            what a call tells where none applies; the number and the values that a request is told
 --   TellsLaw, ExactLaw                         that an answer tells just these, and its number just the refusal
@@ -35,24 +37,30 @@ use Rattle.plant.specs.declared.answer.Told.{Told}
 use Rattle.plant.specs.Record.{noColumns, recordWithin, thousandths}
 use Rattle.plant.specs.Answer.{nothing, told, unless, first, decide}
 
+-- a call's refusals, in the order in which they are tested, and its outcome where none applies
+pub record Rule : Type 0 where
+  pub tests : List ℕ
+  pub done : Outcome
+
 -- Receive adds an ASM1 vector to the sludge tank.
-abbrev pub receiveTests : Plant → List ℕ → List ℕ
-receiveTests p v =
-    unless (recordWithin p) 1
-    ∷ unless (within asm1Ceilings v) 3
-    ∷ unless (within asm1Ceilings (added p.sludge v)) 10
-    ∷ []
-
-unfoldable pub receive : Plant → List ℕ → Outcome
+unfoldable pub receive : Plant → List ℕ → Rule
 receive p v =
-    decide p (first (receiveTests p v))
-    (record {
-      answer = answer.Received;
-      vector = noColumns;
-      plant = record { sludge = added p.sludge v; digester = p.digester; reject = p.reject };
-    })
+    record {
+      tests =
+          unless (recordWithin p) 1
+          ∷ unless (within asm1Ceilings v) 3
+          ∷ unless (within asm1Ceilings (added p.sludge v)) 10
+          ∷ [];
+      done =
+          record {
+            answer = answer.Received;
+            vector = noColumns;
+            plant = record { sludge = added p.sludge v; digester = p.digester; reject = p.reject };
+          };
+    }
 
--- Feed k draws from sludge, converts, and adds to the digester: what is tested of the conversion's outcome o, its own 4 or 6 first, and what becomes of it, where r stays.
+-- Feed k draws from sludge, converts, and adds to the digester: what is tested of the conversion's outcome o, its own 4 or 6 first, and
+-- what becomes of it, where r stays.
 abbrev pub fedTests : Plant → Fed → List ℕ
 fedTests p o = o .refusal ∷ unless (within digesterCeilings (added p.digester (o .vector))) 10 ∷ []
 
@@ -64,11 +72,12 @@ fed p o r =
       plant = record { sludge = r; digester = added p.digester (o .vector); reject = p.reject };
     }
 
-abbrev pub feedTests : Figures → Plant → ℕ → List ℕ
-feedTests f p k = unless (recordWithin p) 1 ∷ unless (thousandths k) 2 ∷ fedTests p (feedOf f (drawn k p.sludge))
-
-unfoldable pub feed : Figures → Plant → ℕ → Outcome
-feed f p k = decide p (first (feedTests f p k)) (fed p (feedOf f (drawn k p.sludge)) (rest k p.sludge))
+unfoldable pub feed : Figures → Plant → ℕ → Rule
+feed f p k =
+    record {
+      tests = unless (recordWithin p) 1 ∷ unless (thousandths k) 2 ∷ fedTests p (feedOf f (drawn k p.sludge));
+      done = fed p (feedOf f (drawn k p.sludge)) (rest k p.sludge);
+    }
 
 -- Settle takes a digester vector d that the host's solver proposes in the place of old, and a gas COD. sic is free.
 abbrev pub settledTests : Figures → List ℕ → Milligrams → List ℕ → List ℕ
@@ -78,19 +87,20 @@ settledTests f old gas d =
     ∷ unless (eqb (digesterOxygen old) (digesterOxygen d) && eqb (digesterNitrate old) (digesterNitrate d)) 9
     ∷ []
 
-abbrev pub settleTests : Figures → Plant → Milligrams → List ℕ → List ℕ
-settleTests f p gas d = unless (recordWithin p) 1 ∷ unless (within digesterCeilings d) 3 ∷ settledTests f p.digester gas d
-
-unfoldable pub settle : Figures → Plant → Milligrams → List ℕ → Outcome
+unfoldable pub settle : Figures → Plant → Milligrams → List ℕ → Rule
 settle f p gas d =
-    decide p (first (settleTests f p gas d))
-    (record {
-      answer = answer.Settled;
-      vector = noColumns;
-      plant = record { sludge = p.sludge; digester = d; reject = p.reject };
-    })
+    record {
+      tests = unless (recordWithin p) 1 ∷ unless (within digesterCeilings d) 3 ∷ settledTests f p.digester gas d;
+      done =
+          record {
+            answer = answer.Settled;
+            vector = noColumns;
+            plant = record { sludge = p.sludge; digester = d; reject = p.reject };
+          };
+    }
 
--- Return k draws from the digester, converts, and adds to reject: what is tested of the conversion's outcome o, its own 5 first, and what becomes of it, where r stays.
+-- Return k draws from the digester, converts, and adds to reject: what is tested of the conversion's outcome o, its own 5 first, and
+-- what becomes of it, where r stays.
 abbrev pub returnedTests : Plant → Returned → List ℕ
 returnedTests p o = o .refusal ∷ unless (within asm1Ceilings (added p.reject (o .vector))) 10 ∷ []
 
@@ -102,49 +112,60 @@ returned p o r =
       plant = record { sludge = p.sludge; digester = r; reject = added p.reject (o .vector) };
     }
 
-abbrev pub returnTests : Figures → Plant → ℕ → List ℕ
-returnTests f p k = unless (recordWithin p) 1 ∷ unless (thousandths k) 2 ∷ returnedTests p (returnOf f (drawn k p.digester))
-
-unfoldable pub giveBack : Figures → Plant → ℕ → Outcome
-giveBack f p k = decide p (first (returnTests f p k)) (returned p (returnOf f (drawn k p.digester)) (rest k p.digester))
+unfoldable pub giveBack : Figures → Plant → ℕ → Rule
+giveBack f p k =
+    record {
+      tests = unless (recordWithin p) 1 ∷ unless (thousandths k) 2 ∷ returnedTests p (returnOf f (drawn k p.digester));
+      done = returned p (returnOf f (drawn k p.digester)) (rest k p.digester);
+    }
 
 -- Release k draws from reject and hands the vector out.
-abbrev pub releaseTests : Plant → ℕ → List ℕ
-releaseTests p k = unless (recordWithin p) 1 ∷ unless (thousandths k) 2 ∷ []
-
-unfoldable pub release : Plant → ℕ → Outcome
+unfoldable pub release : Plant → ℕ → Rule
 release p k =
-    decide p (first (releaseTests p k))
-    (record {
-      answer = answer.Released;
-      vector = drawn k p.reject;
-      plant = record { sludge = p.sludge; digester = p.digester; reject = rest k p.reject };
-    })
+    record {
+      tests = unless (recordWithin p) 1 ∷ unless (thousandths k) 2 ∷ [];
+      done =
+          record {
+            answer = answer.Released;
+            vector = drawn k p.reject;
+            plant = record { sludge = p.sludge; digester = p.digester; reject = rest k p.reject };
+          };
+    }
+
+-- Recycle k draws from reject and adds the draw to the sludge tank: document 02, E1.
+unfoldable pub recycle : Plant → ℕ → Rule
+recycle p k =
+    let v = drawn k p.reject in
+    record {
+      tests = unless (recordWithin p) 1 ∷ unless (thousandths k) 2 ∷ unless (within asm1Ceilings (added p.sludge v)) 10 ∷ [];
+      done =
+          record {
+            answer = answer.Recycled;
+            vector = noColumns;
+            plant = record { sludge = added p.sludge v; digester = p.digester; reject = rest k p.reject };
+          };
+    }
 
 -- ---- any call
 
 -- a call c, with the vectors v and d that it is handed
+abbrev pub ruleBy : Figures → Plant → Call → List ℕ → List ℕ → Rule
+ruleBy f p call.Receive v d = receive p v
+ruleBy f p (call.Feed k) v d = feed f p k
+ruleBy f p (call.Settle gas) v d = settle f p gas d
+ruleBy f p (call.Return k) v d = giveBack f p k
+ruleBy f p (call.Release k) v d = release p k
+ruleBy f p (call.Recycle k) v d = recycle p k
+
 abbrev pub stepBy : Figures → Plant → Call → List ℕ → List ℕ → Outcome
-stepBy f p call.Receive v d = receive p v
-stepBy f p (call.Feed k) v d = feed f p k
-stepBy f p (call.Settle gas) v d = settle f p gas d
-stepBy f p (call.Return k) v d = giveBack f p k
-stepBy f p (call.Release k) v d = release p k
+stepBy f p c v d = let r = ruleBy f p c v d in decide p (first (r .tests)) (r .done)
 
 abbrev pub step : Figures → Plant → Request → Outcome
 step f p r = stepBy f p (r .call) (r .sludge) (r .digester)
 
--- its refusals, in the order in which they are tested
-abbrev pub testsBy : Figures → Plant → Call → List ℕ → List ℕ → List ℕ
-testsBy f p call.Receive v d = receiveTests p v
-testsBy f p (call.Feed k) v d = feedTests f p k
-testsBy f p (call.Settle gas) v d = settleTests f p gas d
-testsBy f p (call.Return k) v d = returnTests f p k
-testsBy f p (call.Release k) v d = releaseTests p k
-
--- the first that applies, or 0
+-- the first refusal that applies, or 0
 abbrev pub refusalOf : Figures → Plant → Request → ℕ
-refusalOf f p r = first (testsBy f p (r .call) (r .sludge) (r .digester))
+refusalOf f p r = first (ruleBy f p (r .call) (r .sludge) (r .digester) .tests)
 
 -- what it tells where no refusal applies: a feed what its conversion burns and reduces, and warn; a return what its conversion strips;
 -- the others nothing
@@ -157,6 +178,7 @@ tellsBy f p (call.Settle gas) = nothing 0
 tellsBy f p (call.Return k) =
     record { number = 0; burnt = 0; oxygen = 0; nitrate = 0; warn = 0; stripped = returnOf f (drawn k p.digester) .stripped .0 }
 tellsBy f p (call.Release k) = nothing 0
+tellsBy f p (call.Recycle k) = nothing 0
 
 -- the first refusal that applies, with zeros; or 0, with what the call tells
 unfoldable pub toldOf : Figures → Plant → Request → Told
@@ -190,3 +212,6 @@ returning k = request (call.Return k)
 
 abbrev pub releasing : ℕ → Request
 releasing k = request (call.Release k)
+
+abbrev pub recycling : ℕ → Request
+recycling k = request (call.Recycle k)

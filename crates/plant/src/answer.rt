@@ -5,13 +5,14 @@ use crate::record::Plant;
 use vectors::Milligrams;
 use vectors::Ticks;
 
-// A call. Feed, Return and Release have their k, and Settle its gas COD.
+// A call. Feed, Return, Release and Recycle have their k, and Settle its gas COD.
 pub enum Call {
     Receive,
     Feed(u64),
     Settle(Milligrams),
     Return(u64),
     Release(u64),
+    Recycle(u64),
 }
 
 // A call with the vectors that it is handed: Receive takes sludge, Settle takes digester, and the others none.
@@ -35,6 +36,7 @@ pub enum Answer {
         stripped: Milligrams,
     },
     Released,
+    Recycled,
     Refused(u64),
 }
 
@@ -95,6 +97,7 @@ pub fn told_of(a: Answer) -> Told
             stripped: stripped.0,
         },
         Answer::Released => nothing_but(0),
+        Answer::Recycled => nothing_but(0),
         Answer::Refused(n) => nothing_but(n),
     }
 }

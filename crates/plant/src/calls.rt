@@ -1,4 +1,4 @@
-// Any of the five calls, by a request.
+// Any of the calls, by a request.
 ghost use mathlib.Core.Path.{_≡_};
 ghost use Rattle.vectors.specs.Figures.{house};
 ghost use Rattle.plant.specs.Answer.{told};
@@ -9,6 +9,7 @@ use crate::answer::Request;
 use crate::feeding::feed;
 use crate::receiving::receive;
 use crate::record::Plant;
+use crate::recycling::recycle;
 use crate::releasing::release;
 use crate::returning::give_back;
 use crate::settling::settle;
@@ -27,5 +28,6 @@ pub fn answer_request(plant: Plant, request: Request) -> Outcome
         Call::Settle(gas) => settle(plant, gas, digester),
         Call::Return(k) => give_back(plant, k),
         Call::Release(k) => release(plant, k),
+        Call::Recycle(k) => recycle(plant, k),
     }
 }

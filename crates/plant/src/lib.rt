@@ -1,4 +1,4 @@
-// The plant record: three tanks and the five calls that move columns between them. It knows nothing of text.
+// The plant record: three tanks and the six calls that move columns between them. It knows nothing of text.
 //
 //   record     the record, and whether its columns are within their ceilings
 //   answer     a call, what it answers, and the outcome
@@ -7,7 +7,8 @@
 //   settling   the digester's contents as the host's solver proposes them
 //   returning  digester to reject
 //   releasing  reject handed out
-//   calls      any of the five, by a request
+//   recycling  reject back into the sludge tank
+//   calls      any of the six, by a request
 //   holding    what is in the tanks
 mod answer;
 mod calls;
@@ -15,6 +16,7 @@ mod feeding;
 mod holding;
 mod receiving;
 mod record;
+mod recycling;
 mod releasing;
 mod returning;
 mod settling;
@@ -35,6 +37,7 @@ pub use receiving::receive;
 pub use record::Plant;
 pub use record::fresh;
 pub use record::record_within;
+pub use recycling::recycle;
 pub use releasing::release;
 pub use returning::give_back;
 pub use settling::settle;

@@ -39,6 +39,12 @@ examples =
     ∷ ("(feed 0)" asks feeding 0)
     ∷ ("(return 1000)" asks bare (Asked (call.Return 1000)))
     ∷ ("(release 1000)" asks bare (Asked (call.Release 1000)))
+    ∷ ("(recycle 1000)" asks bare (Asked (call.Recycle 1000)))
+    ∷ ("(recycle 18446744073709551615)" asks bare (Asked (call.Recycle 18_446_744_073_709_551_615)))
+    ∷ ("(recycle)" asks noForm)
+    ∷ ("(recycle 01)" asks noForm)
+    ∷ ("(recycle 1 (ss 1))" asks noForm)
+    ∷ ("(recycled 1)" asks noForm)
     -- no field, fields in any order, each once
     ∷ ("(receive)" asks receiving [])
     ∷ ("(settle 0)" asks settling 0 [])

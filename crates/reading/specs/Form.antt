@@ -2,18 +2,20 @@
 --
 --   readField     inside a bracket: a name, a space, a number
 --   readFields    none or more fields, each behind a space, each column at most once
---   wordOf        the word that a form begins with
---   readForm      inside the outer bracket: (receive F..), (feed N), (settle N F..), (return N), (release N)
+--   numberWords   the words of the forms with a number alone: (feed N), (return N), (release N), and (recycle N) of document 02, E1
+--   readForm      inside the outer bracket: (receive F..), (settle N F..), or one of these
 --   readLine      a whole line: at most 1,024 bytes, a bracket around them
 --
 -- The part inside a bracket is read by itself.
 use mathlib.Core.Bool.{Bool, true, false, cond, _&&_}
 use mathlib.Core.List.{List, [], _∷_}
 use Prim.Native.Nat.{ℕ, _-_}
+use Prim.Native.String.{String}
 use lib.Dec.{leb, ltb, eqb}
 use lib.ListN.{length, take, drop, getD, set, replicate}
 use Rattle.vectors.specs.Columns.{asm1, asm1Columns}
 use Rattle.vectors.specs.Units.{milligrams}
+use Rattle.plant.specs.declared.answer.Call.{Call}
 use Rattle.plant.specs.declared.answer.Call.the-variants as call
 use Rattle.reading.specs.declared.number.Number.{Number}
 use Rattle.reading.specs.declared.number.Number.the-variants.{Value, NotANumber}
@@ -23,8 +25,6 @@ use Rattle.reading.specs.declared.names.Column.the-variants.{At, Unknown
 use Rattle.reading.specs.declared.fields.Field.{Field}
 use Rattle.reading.specs.declared.fields.Field.the-variants.{Of, NotAField}
 use Rattle.reading.specs.declared.fields.Fields.{Fields}
-use Rattle.reading.specs.declared.form.Word.{Word}
-use Rattle.reading.specs.declared.form.Word.the-variants as word
 use Rattle.reading.specs.declared.form.Form.{Form}
 use Rattle.reading.specs.declared.form.Form.the-variants.{Asked, NotAForm}
 use Rattle.reading.specs.declared.form.Line.{Line}
@@ -112,43 +112,43 @@ abbrev pub settleLine : Number → Fields → Line
 settleLine (Value g) f = settleFields g f
 settleLine NotANumber f = noForm
 
--- (feed N), (return N), (release N)
-abbrev pub callOf : Word → ℕ → Form
-callOf word.Feed k = Asked (call.Feed k)
-callOf word.Return k = Asked (call.Return k)
-callOf word.Release k = Asked (call.Release k)
-callOf word.Receive k = NotAForm
-callOf word.Settle k = NotAForm
-callOf word.Unknown k = NotAForm
+-- the words of the forms with a number alone, (feed N) and its like, and their calls
+pub record Word : Type 0 where
+  pub word : String
+  pub call : ℕ → Call
 
-abbrev pub numberLine : Word → Number → Line
+infix 80 _means_
+abbrev pub _means_ : String → (ℕ → Call) → Word
+w means c = record { word = w; call = c }
+
+abbrev pub numberWords : List Word
+numberWords = "feed" means call.Feed ∷ "return" means call.Return ∷ "release" means call.Release ∷ "recycle" means call.Recycle ∷ []
+
+-- the call of the word w with its number k, by a table
+unfoldable pub callBy : List Word → List ℕ → ℕ → Form
+callBy [] w k = NotAForm
+callBy (r ∷ rs) w k = cond (sameBytes w (ascii r.word)) (Asked (r .call k)) (callBy rs w k)
+
+abbrev pub callOf : List ℕ → ℕ → Form
+callOf w k = callBy numberWords w k
+
+abbrev pub numberLine : List ℕ → Number → Line
 numberLine w (Value k) = bare (callOf w k)
 numberLine w NotANumber = noForm
-
-unfoldable pub wordOf : List ℕ → Word
-wordOf s =
-    cond (sameBytes s (ascii "receive")) word.Receive
-    (cond (sameBytes s (ascii "feed")) word.Feed
-    (cond (sameBytes s (ascii "settle")) word.Settle
-    (cond (sameBytes s (ascii "return")) word.Return
-    (cond (sameBytes s (ascii "release")) word.Release
-    word.Unknown))))
 
 -- behind the word settle and its space: a number, then fields
 unfoldable pub settleRest : List ℕ → Line
 settleRest u = settleLine (readNumber (upTo space u)) (readFields (namesOf Digester) (drop (length (upTo space u)) u))
 
-abbrev pub formOf : Word → List ℕ → Line
-formOf word.Receive t = receiveLine (readFields (namesOf Sludge) (drop (length (upTo space t)) t))
-formOf word.Feed t = numberLine word.Feed (readNumber (behind space t))
-formOf word.Settle t = settleRest (behind space t)
-formOf word.Return t = numberLine word.Return (readNumber (behind space t))
-formOf word.Release t = numberLine word.Release (readNumber (behind space t))
-formOf word.Unknown t = noForm
+-- inside the outer bracket t: the word w up to the first space, and what stands behind it
+unfoldable pub formOf : List ℕ → List ℕ → Line
+formOf w t =
+    cond (sameBytes w (ascii "receive")) (receiveLine (readFields (namesOf Sludge) (drop (length w) t)))
+    (cond (sameBytes w (ascii "settle")) (settleRest (behind space t))
+    (numberLine w (readNumber (behind space t))))
 
--- inside the outer bracket: the word up to the first space, and what stands behind it
-unfoldable pub readForm : List ℕ → Line
-readForm t = formOf (wordOf (upTo space t)) t
+abbrev pub readForm : List ℕ → Line
+readForm t = formOf (upTo space t) t
 
 -- a bracket around the whole
 unfoldable pub inBrackets : List ℕ → Bool

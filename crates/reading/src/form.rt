@@ -4,7 +4,8 @@ ghost use Prim.Native.Nat.{_+_};
 ghost use lib.ListN.{length};
 ghost use Rattle.reading.specs.Text.{upTo, behind};
 ghost use Rattle.reading.specs.Number.{readNumber};
-ghost use Rattle.reading.specs.Form.{bare, noForm, receiveLine, settleFields, settleLine, callOf, numberLine, wordOf, settleRest, readForm, readLine};
+ghost use Rattle.reading.specs.Form.{bare, noForm, receiveLine, settleFields, settleLine};
+ghost use Rattle.reading.specs.Form.{callOf, numberLine, settleRest, readForm, readLine};
 use crate::bytes::place;
 use crate::bytes::same;
 use crate::fields::Fields;
@@ -26,16 +27,6 @@ pub struct Line {
     pub form: Form,
     pub sludge: [u64; 13],
     pub digester: [u64; 26],
-}
-
-// The word that a form begins with.
-pub enum Word {
-    Receive,
-    Feed,
-    Settle,
-    Return,
-    Release,
-    Unknown,
 }
 
 // A line without its newline.
@@ -63,36 +54,14 @@ fn read_form(t: &[u8]) -> Line
     ensures { λ r. ⌜ r ≡ readForm (now (t .entry)) ⌝ }
 {
     let k = place(t, 0, 32);
-    let w = word_of(&t[..k]);
-    match w {
-        Word::Receive => receive_line(read_fields(Vector::Sludge, &t[k..])),
-        Word::Feed => number_line(Word::Feed, number_behind(t, k)),
-        Word::Settle => settle_behind(t, k),
-        Word::Return => number_line(Word::Return, number_behind(t, k)),
-        Word::Release => number_line(Word::Release, number_behind(t, k)),
-        Word::Unknown => no_form(),
+    let w = &t[..k];
+    if same(w, b"receive") {
+        return receive_line(read_fields(Vector::Sludge, &t[k..]));
     }
-}
-
-fn word_of(s: &[u8]) -> Word
-    ensures { λ r. ⌜ r ≡ wordOf (now (s .entry)) ⌝ }
-{
-    if same(s, b"receive") {
-        return Word::Receive;
+    if same(w, b"settle") {
+        return settle_behind(t, k);
     }
-    if same(s, b"feed") {
-        return Word::Feed;
-    }
-    if same(s, b"settle") {
-        return Word::Settle;
-    }
-    if same(s, b"return") {
-        return Word::Return;
-    }
-    if same(s, b"release") {
-        return Word::Release;
-    }
-    Word::Unknown
+    number_line(w, number_behind(t, k))
 }
 
 // The number behind the first space, which stands at k.
@@ -192,8 +161,9 @@ fn settle_fields(g: u64, f: Fields) -> Line
     no_form()
 }
 
-fn number_line(w: Word, n: Number) -> Line
-    ensures { λ r. ⌜ r ≡ numberLine w n ⌝ }
+// The form of the word w with its number alone.
+fn number_line(w: &[u8], n: Number) -> Line
+    ensures { λ r. ⌜ r ≡ numberLine (now (w .entry)) n ⌝ }
 {
     match n {
         Number::Value(k) => bare_line(call_of(w, k)),
@@ -201,17 +171,23 @@ fn number_line(w: Word, n: Number) -> Line
     }
 }
 
-fn call_of(w: Word, k: u64) -> Form
-    ensures { λ r. ⌜ r ≡ callOf w k ⌝ }
+// The call that the word w stands for, with its number.
+fn call_of(w: &[u8], k: u64) -> Form
+    ensures { λ r. ⌜ r ≡ callOf (now (w .entry)) k ⌝ }
 {
-    match w {
-        Word::Feed => Form::Asked(Call::Feed(k)),
-        Word::Return => Form::Asked(Call::Return(k)),
-        Word::Release => Form::Asked(Call::Release(k)),
-        Word::Receive => Form::NotAForm,
-        Word::Settle => Form::NotAForm,
-        Word::Unknown => Form::NotAForm,
+    if same(w, b"feed") {
+        return Form::Asked(Call::Feed(k));
     }
+    if same(w, b"return") {
+        return Form::Asked(Call::Return(k));
+    }
+    if same(w, b"release") {
+        return Form::Asked(Call::Release(k));
+    }
+    if same(w, b"recycle") {
+        return Form::Asked(Call::Recycle(k));
+    }
+    Form::NotAForm
 }
 
 fn bare_line(form: Form) -> Line

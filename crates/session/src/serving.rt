@@ -21,7 +21,7 @@ fn answer_word() {
             return;
         }
         if check::same(&word[..n], b"--version") {
-            write_all(b"sludgeline 0.6.0\n");
+            write_all(b"sludgeline 0.7.0\n");
             return;
         }
     }
@@ -48,7 +48,8 @@ usage: sludgeline < CALLS > ANSWERS    or --help, or --version\n\
 (feed N)        N thousandths of the sludge, converted, into the digester\n\
 (settle N F..)  the digester as a solver proposes it, N mg of COD as gas\n\
 (return N)      N thousandths of the digester, converted, into the reject tank\n\
-(release N)     N thousandths of the reject tank handed out\n",
+(release N)     N thousandths of the reject tank handed out\n\
+(recycle N)     N thousandths of the reject tank back into the sludge tank\n",
     )
 }
 

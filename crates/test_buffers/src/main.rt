@@ -27,6 +27,7 @@ fn first(space: &mut [u8], n: usize) {
 // Lines of each kind, held lines, the longest answer, and each kind of answer handed back.
 fn all(buf: &mut [u8]) {
     lines_of_each_kind(buf);
+    lines_of_reject(buf);
     held(buf, 0);
     held(buf, 1000000000000);
     held(buf, 1000000000001);
@@ -43,7 +44,12 @@ fn lines_of_each_kind(buf: &mut [u8]) {
     line(buf, b"");
     line(buf, b"(settle 0)");
     line(buf, b"(return 1000)");
+}
+
+// Lines that draw from the reject tank.
+fn lines_of_reject(buf: &mut [u8]) {
     line(buf, b"(release 1000)");
+    line(buf, b"(recycle 1000)");
 }
 
 // The answer to a line on a fresh record.
@@ -85,6 +91,7 @@ fn each_kind_handed_back(buf: &mut [u8]) {
     let stripped = Milligrams(14);
     handed_back(buf, Answer::Returned { stripped }, none);
     handed_back(buf, Answer::Released, v);
+    handed_back(buf, Answer::Recycled, none);
     handed_back(buf, Answer::Refused(7), none);
     handed_back(buf, Answer::Refused(18446744073709551615), none);
 }

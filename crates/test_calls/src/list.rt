@@ -33,7 +33,7 @@ pub fn balances() {
     report(run);
 }
 
-fn start() -> Run {
+pub fn start() -> Run {
     Run {
         plant: plant::fresh(),
         received: nothing(),
@@ -59,7 +59,12 @@ fn next(x: u64) -> u64 {
 // One call, whose kind goes by i and whose numbers by x.
 fn one_call(run: Run, x: u64, i: u64) -> Run {
     let p = run.plant;
-    let r = request(p, x, i % 8);
+    called(run, request(p, x, i % 8))
+}
+
+// A call, and what it adds to the sums.
+pub fn called(run: Run, r: Request) -> Run {
+    let p = run.plant;
     let o = plant::answer_request(p, r);
     let a = o.answer;
     let v = o.vector;
@@ -167,6 +172,7 @@ fn request(p: Plant, x: u64, kind: u64) -> Request {
         4 => settling(p, x),
         5 => bare(Call::Return(k)),
         6 => bare(Call::Release(k)),
+        7 => bare(Call::Recycle(k)),
         _ => Request {
             call: Call::Receive,
             sludge: columns(x),
@@ -175,7 +181,7 @@ fn request(p: Plant, x: u64, kind: u64) -> Request {
     }
 }
 
-fn bare(call: Call) -> Request {
+pub fn bare(call: Call) -> Request {
     Request {
         call: call,
         sludge: [0; 13],
@@ -207,7 +213,7 @@ fn columns(x: u64) -> [u64; 13] {
     [a, c, b, c, b, a, b, a, c * 7, c * 9, c * 5, b * 11, a]
 }
 
-fn report(run: Run) {
+pub fn report(run: Run) {
     test_show::number(b"accepted ", run.accepted);
     test_show::text(b"\n");
     let p = run.plant;

@@ -1,4 +1,4 @@
-// Small examples of the five calls, one to a row of a table.
+// Small examples of the calls, one to a row of a table.
 use crate::write::answer;
 use crate::write::call_name;
 use crate::write::same;
@@ -16,8 +16,8 @@ const TICKS_OVER: u64 = 10000000000000001;
 const MOST: u64 = 18446744073709551615;
 
 // A row: twice a tank (1 sludge, 2 digester, 3 reject), a place in it and its column's value; the call (1 receive, 2 feed, 3 settle,
-// 4 return, 5 release) and its number; twice a place in the vector that is handed to it and the value there.
-const ROWS: [[u64; 12]; 65] = [
+// 4 return, 5 release, 6 recycle) and its number; twice a place in the vector that is handed to it and the value there.
+const ROWS: [[u64; 12]; 85] = [
     // The small examples of document 01, with the nearest accepted call beside each.
     [1, 1, COD_OVER, 0, 0, 0, 2, 1000, 0, 0, 1, 0],
     [0, 0, 0, 0, 0, 0, 2, 0, 0, 0, 1, 0],
@@ -88,12 +88,36 @@ const ROWS: [[u64; 12]; 65] = [
     [3, 0, MOST, 0, 0, 0, 3, 0, 0, 0, 1, 0],
     [3, 0, MOST, 0, 0, 0, 4, 1, 0, 0, 1, 0],
     [3, 0, MOST, 0, 0, 0, 5, 1, 0, 0, 1, 0],
+    // Recycles. K at its edges.
+    [3, 3, 2000, 3, 9, 999, 6, 0, 0, 0, 1, 0],
+    [3, 3, 2000, 3, 9, 999, 6, 1, 0, 0, 1, 0],
+    [3, 3, 2000, 3, 9, 999, 6, 999, 0, 0, 1, 0],
+    [3, 3, 2000, 3, 9, 999, 6, 1000, 0, 0, 1, 0],
+    [3, 3, 2000, 3, 9, 999, 6, 1001, 0, 0, 1, 0],
+    [3, 3, 2000, 3, 9, 999, 6, MOST, 0, 0, 1, 0],
+    // Onto what is in the sludge tank, up to its ceiling and past it.
+    [1, 3, 5, 3, 3, 2001, 6, 500, 0, 0, 1, 0],
+    [1, 1, COD - 1, 3, 1, 1, 6, 1000, 0, 0, 1, 0],
+    [1, 1, COD, 3, 1, 1, 6, 1000, 0, 0, 1, 0],
+    [1, 1, COD, 3, 1, 999, 6, 1, 0, 0, 1, 0],
+    [1, 1, COD, 3, 1, 1000, 6, 1, 0, 0, 1, 0],
+    [1, 11, TICKS_OVER - 1, 3, 11, 2, 6, 500, 0, 0, 1, 0],
+    [1, 12, COD, 3, 12, COD, 6, 1000, 0, 0, 1, 0],
+    // Where two refusals apply.
+    [3, 12, COD_OVER, 0, 0, 0, 6, 0, 0, 0, 1, 0],
+    [1, 1, COD_OVER, 3, 1, 1, 6, 1000, 0, 0, 1, 0],
+    [1, 1, COD, 3, 1, COD, 6, 1001, 0, 0, 1, 0],
+    [1, 1, COD, 3, 1, COD, 6, MOST, 0, 0, 1, 0],
+    // A record above its ceiling.
+    [1, 6, COD_OVER, 0, 0, 0, 6, 1, 0, 0, 1, 0],
+    [2, 25, TICKS_OVER, 0, 0, 0, 6, 1, 0, 0, 1, 0],
+    [3, 0, MOST, 0, 0, 0, 6, 1, 0, 0, 1, 0],
 ];
 
 // Makes each row's record, calls it, and writes the answer and whether the record is the one handed in.
 pub fn examples() {
     let mut i: usize = 0;
-    while i < 65 {
+    while i < 85 {
         example(row(i));
         i += 1;
     }
@@ -101,7 +125,7 @@ pub fn examples() {
 
 fn row(i: usize) -> [u64; 12] {
     let rows = ROWS;
-    if i < 65 {
+    if i < 85 {
         return rows[i];
     }
     [0; 12]
@@ -145,7 +169,8 @@ fn call_of(c: u64, n: u64) -> Call {
         2 => Call::Feed(n),
         3 => Call::Settle(vectors::Milligrams(n)),
         4 => Call::Return(n),
-        _ => Call::Release(n),
+        5 => Call::Release(n),
+        _ => Call::Recycle(n),
     }
 }
 

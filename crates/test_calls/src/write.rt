@@ -12,6 +12,7 @@ pub fn call_name(c: Call) {
         Call::Settle(g) => test_show::number(b"settle ", g.0),
         Call::Return(k) => test_show::number(b"return ", k),
         Call::Release(k) => test_show::number(b"release ", k),
+        Call::Recycle(k) => test_show::number(b"recycle ", k),
     }
     test_show::text(b": ");
 }
@@ -19,6 +20,7 @@ pub fn call_name(c: Call) {
 // The answer, with the columns of a released vector that are not zero.
 pub fn answer(o: Outcome) {
     let a = o.answer;
+    let after = o.plant;
     match a {
         Answer::Received => test_show::text(b"ok receive"),
         Answer::Fed {
@@ -30,10 +32,27 @@ pub fn answer(o: Outcome) {
         Answer::Settled => test_show::text(b"ok settle"),
         Answer::Returned { stripped } => test_show::number(b"ok return stripped ", stripped.0),
         Answer::Released => test_show::text(b"ok release"),
+        Answer::Recycled => recycled(after),
         Answer::Refused(n) => test_show::number(b"no ", n),
     }
     let v = o.vector;
     test_show::asm1(v);
+}
+
+// A recycle tells nothing; what the two tanks hold then is shown.
+fn recycled(p: Plant) {
+    test_show::text(b"ok recycle, ");
+    tanks(p);
+}
+
+// The columns of the sludge and reject tanks that are not zero.
+pub fn tanks(p: Plant) {
+    let sludge = p.sludge;
+    let reject = p.reject;
+    test_show::text(b"sludge ");
+    test_show::asm1(sludge);
+    test_show::text(b", reject ");
+    test_show::asm1(reject);
 }
 
 fn fed(burnt: u64, oxygen: u64, nitrate: u64, warn: u64) {

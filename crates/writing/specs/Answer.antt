@@ -1,4 +1,4 @@
--- Answers as text: document 01, "Lines in brackets".
+-- Answers as text: document 01, "Lines in brackets", and document 02, E1.
 --
 --   columnText, columnsText   (name N), and the first k columns of a vector, each behind a space
 --   fourText                  four numbers behind their labels
@@ -13,7 +13,7 @@ use Prim.Native.Nat.{ℕ, zero, suc}
 use lib.Dec.{ltb, eqb}
 use lib.ListN.{getD}
 use Rattle.plant.specs.declared.answer.Answer.{Answer}
-use Rattle.plant.specs.declared.answer.Answer.the-variants.{Received, Fed, Settled, Returned, Released, Refused}
+use Rattle.plant.specs.declared.answer.Answer.the-variants.{Received, Fed, Settled, Returned, Released, Recycled, Refused}
 use Rattle.plant.specs.declared.holding.HeldTotals.{HeldTotals}
 use Rattle.reading.specs.declared.names.Vector.the-variants.{Sludge}
 use Rattle.reading.specs.Text.{ascii, oneLine}
@@ -55,6 +55,7 @@ answerText (Fed b o n w) v = fedText (b .0) (o .0) (n .0) w
 answerText Settled v = ascii "(ok settle)"
 answerText (Returned s) v = returnedText (s .0)
 answerText Released v = releasedText v
+answerText Recycled v = ascii "(ok recycle)"
 answerText (Refused n) v = refusedText n
 
 abbrev pub totalsText : ℕ → ℕ → ℕ → ℕ → List ℕ

@@ -2,6 +2,7 @@
 --
 --   noDigits        no digit stands in a byte string, as a test
 --   numbersIn       the numbers in a text: each run of digits
+--   replies         the words of accepted answers
 --   readAnswer      the answer that a text stands for
 --   allShort        every number that an answer tells has at most twenty digits, as every number of the code has
 --   ReadBackLaw     reading what was written gives the answer back. proofs/Laws/ReadBack.antt proves it: answer-read
@@ -10,13 +11,16 @@
 use mathlib.Core.Bool.{Bool, true, false, cond, not, _&&_}
 use mathlib.Core.List.{List, [], _∷_}
 use mathlib.Core.Path.{_≡_}
-use Prim.{Unit}
 use Prim.Native.Nat.{ℕ, _+_, _-_, _*_, _^_, _<_}
 use lib.Dec.{eqb}
-use lib.ListN.{length, getD}
+use Prim.Native.String.{String}
+use lib.ListN.{length, drop, getD}
 use Rattle.vectors.specs.Units.{milligrams, ticks}
 use Rattle.plant.specs.declared.answer.Answer.{Answer}
-use Rattle.plant.specs.declared.answer.Answer.the-variants.{Received, Fed, Settled, Returned, Released, Refused}
+use Rattle.plant.specs.declared.answer.Answer.the-variants.{Received, Fed, Settled, Returned, Released, Recycled, Refused}
+use Rattle.plant.specs.declared.answer.Told.{Told}
+use Rattle.plant.specs.Answer.{told}
+use Rattle.reading.specs.Text.{ascii, sameBytes, upTo, space, closing}
 use Rattle.reading.specs.Number.{isDigit}
 use Rattle.writing.specs.Answer.{answerText}
 
@@ -34,27 +38,45 @@ scan true n (b ∷ s) = cond (isDigit b) (scan true (n * 10 + (b - 48)) s) (n �
 abbrev pub numbersIn : List ℕ → List ℕ
 numbersIn s = scan false 0 s
 
--- what stands at 1, 6 and 4 tells (no from (ok, and the words from each other
-abbrev pub kindOf : ℕ → ℕ → ℕ → List ℕ → Answer
-kindOf a b c ns =
-    cond (eqb a 110) (Refused (getD ns 0 0))
-    (cond (eqb b 99) Received
-    (cond (eqb b 101) (Fed (milligrams (getD ns 0 0)) (milligrams (getD ns 1 0)) (ticks (getD ns 2 0)) (getD ns 3 0))
-    (cond (eqb b 108) Released (cond (eqb c 115) Settled (Returned (milligrams (getD ns 0 0)))))))
+-- the word behind (ok and its space
+abbrev pub wordIn : List ℕ → List ℕ
+wordIn s = upTo closing (upTo space (drop 4 s))
 
+-- the words of accepted answers, and the answer with the numbers in its text
+pub record Reply : Type 0 where
+  pub word : String
+  pub answer : List ℕ → Answer
+
+infix 80 _stands_
+abbrev pub _stands_ : String → (List ℕ → Answer) → Reply
+w stands a = record { word = w; answer = a }
+
+abbrev pub replies : List Reply
+replies =
+    "receive" stands (λ ns. Received)
+    ∷ "feed" stands (λ ns. Fed (milligrams (getD ns 0 0)) (milligrams (getD ns 1 0)) (ticks (getD ns 2 0)) (getD ns 3 0))
+    ∷ "settle" stands (λ ns. Settled)
+    ∷ "return" stands (λ ns. Returned (milligrams (getD ns 0 0)))
+    ∷ "release" stands (λ ns. Released)
+    ∷ "recycle" stands (λ ns. Recycled)
+    ∷ []
+
+-- the answer of a word with its numbers, by a table; a word that is not in it is read as a refusal
+unfoldable pub replyBy : List Reply → List ℕ → List ℕ → Answer
+replyBy [] w ns = Refused (getD ns 0 0)
+replyBy (r ∷ rs) w ns = cond (sameBytes w (ascii r.word)) (r .answer ns) (replyBy rs w ns)
+
+-- n stands second in a refusal
 unfoldable pub readAnswer : List ℕ → Answer
-readAnswer s = kindOf (getD s 1 0) (getD s 6 0) (getD s 4 0) (numbersIn s)
+readAnswer s = cond (eqb (getD s 1 0) 110) (Refused (getD (numbersIn s) 0 0)) (replyBy replies (wordIn s) (numbersIn s))
 
 abbrev pub short : ℕ → Type 0
 short n = n < 10 ^ 20
 
 abbrev pub allShort : Answer → Type 0
-allShort Received = Unit {0}
-allShort (Fed b o n w) = short (b .0) × short (o .0) × short (n .0) × short w
-allShort Settled = Unit {0}
-allShort (Returned s) = short (s .0)
-allShort Released = Unit {0}
-allShort (Refused n) = short n
+allShort a =
+    let t = told a in
+    short (t .number) × short (t .burnt) × short (t .oxygen) × short (t .nitrate) × short (t .warn) × short (t .stripped)
 
 abbrev pub ReadBackLaw : Type 0
 ReadBackLaw = (a : Answer) (v : List ℕ) → allShort a → readAnswer (answerText a v) ≡ a

@@ -3,9 +3,9 @@ ghost use mathlib.Core.Path.{_≡_};
 ghost use Prim.Native.Nat.{_≤_};
 ghost use denote.Ref.{ptr};
 ghost use lib.ListN.{length};
-ghost use Rattle.reading.specs.Text.{ascii};
 ghost use Rattle.writing.specs.Buffer.{Answered};
-ghost use Rattle.writing.specs.Answer.{fedText, fourText, returnedText, releasedText, refusedText, answerText, totalsText, heldText, fitting};
+ghost use Rattle.writing.specs.Answer.{fedText, fourText, returnedText, releasedText, refusedText};
+ghost use Rattle.writing.specs.Answer.{answerText, totalsText, heldText, fitting};
 use crate::put::filled_part;
 use crate::put::put_bytes;
 use crate::put::put_columns;
@@ -21,16 +21,17 @@ pub fn write_answer(buf: &mut [u8], a: Answer, v: [u64; 13]) -> usize
         return 0;
     }
     match a {
-        Answer::Received => write_received(buf),
+        Answer::Received => write_word(buf, b"(ok receive)"),
         Answer::Fed {
             burnt,
             oxygen,
             nitrate,
             warn,
         } => write_fed(buf, burnt.0, oxygen.0, nitrate.0, warn),
-        Answer::Settled => write_settled(buf),
+        Answer::Settled => write_word(buf, b"(ok settle)"),
         Answer::Returned { stripped } => write_returned(buf, stripped.0),
         Answer::Released => write_released(buf, v),
+        Answer::Recycled => write_word(buf, b"(ok recycle)"),
         Answer::Refused(n) => write_refused(buf, n),
     }
 }
@@ -44,18 +45,12 @@ pub fn filled_answer<'a>(buf: &'a mut [u8], a: Answer, v: [u64; 13]) -> &'a [u8]
     filled_part(buf, n)
 }
 
-fn write_received(buf: &mut [u8]) -> usize
-    requires { ⌜ 512 ≤ length (now buf) ⌝ }
-    ensures { λ r. ⌜ Answered (now (buf .entry)) (ascii "(ok receive)") r (now (buf .exit)) ⌝ }
+// An answer that tells nothing.
+fn write_word(buf: &mut [u8], s: &[u8]) -> usize
+    requires { ⌜ (512 ≤ length (now buf)) × (length (now s) ≤ 40) ⌝ }
+    ensures { λ r. ⌜ Answered (now (buf .entry)) (now (s .entry)) r (now (buf .exit)) ⌝ }
 {
-    put_bytes(buf, 0, b"(ok receive)")
-}
-
-fn write_settled(buf: &mut [u8]) -> usize
-    requires { ⌜ 512 ≤ length (now buf) ⌝ }
-    ensures { λ r. ⌜ Answered (now (buf .entry)) (ascii "(ok settle)") r (now (buf .exit)) ⌝ }
-{
-    put_bytes(buf, 0, b"(ok settle)")
+    put_bytes(buf, 0, s)
 }
 
 fn write_fed(buf: &mut [u8], burnt: u64, oxygen: u64, nitrate: u64, warn: u64) -> usize

@@ -1,9 +1,11 @@
 //! The benchmark: `sludgeline` against `second` on one long session, with `wc -l`
-//! as the floor, and one feed of the C library against one of the Rust `feed`.
+//! as the floor, and one feed and one recycle of the C library against those in Rust.
+//! The session and the feeds' records are those from before there was a recycle, so that
+//! older figures can be held against new ones.
 //!
 //!     bench [--rounds N] [--megabytes N] [--program PATH]
 //!
-//! Here: the options, the session file, the timed programs, the timed feeds.
+//! Here: the options, the session file, the timed programs, the timed feeds and recycles.
 
 use second::plant::{Call, Plant, Record};
 use second::random::Random;
@@ -193,7 +195,7 @@ fn bench_programs(options: &Options) -> Result<(), String> {
     }
 }
 
-/// How many records are fed in one pass; together they fit a second-level cache.
+/// How many records are called on in one pass; together they fit a second-level cache.
 const RECORDS: usize = 512;
 
 /// How many passes make one timed run.
@@ -229,11 +231,17 @@ fn rust_feed(plant: &mut Plant, k: u64, told: &mut [u64; 4]) -> u64 {
     }
 }
 
-/// Feeds each record once, pass after pass from the same start; gives nanoseconds per feed.
-fn time_feeds<R: Copy>(
+/// One Rust recycle, kept from being drawn into the loop that times it; it tells nothing.
+#[inline(never)]
+fn rust_recycle(plant: &mut Plant, k: u64, _told: &mut [u64; 4]) -> u64 {
+    plant.recycle(k).err().map_or(0, |refusal| refusal as u64)
+}
+
+/// Calls on each record once, pass after pass from the same start; gives nanoseconds per call.
+fn time_calls<R: Copy>(
     start: &[R],
     thousandths: &[u64],
-    feed: impl Fn(&mut R, u64, &mut [u64; 4]) -> u64,
+    call: impl Fn(&mut R, u64, &mut [u64; 4]) -> u64,
 ) -> f64 {
     let mut work = start.to_vec();
     let mut seconds = 0.0;
@@ -242,7 +250,7 @@ fn time_feeds<R: Copy>(
         work.copy_from_slice(start);
         let begin = Instant::now();
         for (record, &k) in work.iter_mut().zip(thousandths) {
-            black_box(feed(record, k, &mut told));
+            black_box(call(record, k, &mut told));
             black_box(&told);
         }
         seconds += begin.elapsed().as_secs_f64();
@@ -277,20 +285,12 @@ fn bench_feeds(options: &Options) -> Result<(), String> {
     let records: Vec<Record> = plants.iter().map(Plant::columns).collect();
     let (mut library, mut rust) = (Vec::new(), Vec::new());
     for _ in 0..options.rounds {
-        library.push(time_feeds(&records, &thousandths, |record, k, told| {
+        library.push(time_calls(&records, &thousandths, |record, k, told| {
             host::jilghvani_feed(record, k, told)
         }));
-        rust.push(time_feeds(&plants, &thousandths, rust_feed));
+        rust.push(time_calls(&plants, &thousandths, rust_feed));
     }
-    let (library, rust) = (median_and_least(library), median_and_least(rust));
-    println!("{} rounds, in turn     median ns    least ns   (for one feed)", options.rounds);
-    println!("  {:<20} {:>8.1}    {:>8.1}", "jilghvani_feed", library.0, library.1);
-    println!("  {:<20} {:>8.1}    {:>8.1}", "Rust feed", rust.0, rust.1);
-    println!(
-        "time of jilghvani_feed over time of Rust feed: {:.3} by medians, {:.3} by least",
-        library.0 / rust.0,
-        library.1 / rust.1
-    );
+    print_times("feed", options.rounds, library, rust);
     if alike {
         Ok(())
     } else {
@@ -298,11 +298,51 @@ fn bench_feeds(options: &Options) -> Result<(), String> {
     }
 }
 
-/// Runs both benchmarks.
+/// Prints median and least of the times of one call by both, and the ratios.
+fn print_times(call: &str, rounds: usize, library: Vec<f64>, rust: Vec<f64>) {
+    let (library, rust) = (median_and_least(library), median_and_least(rust));
+    println!("{rounds} rounds, in turn     median ns    least ns   (for one {call})");
+    println!("  {:<20} {:>8.1}    {:>8.1}", format!("jilghvani_{call}"), library.0, library.1);
+    println!("  {:<20} {:>8.1}    {:>8.1}", format!("Rust {call}"), rust.0, rust.1);
+    println!(
+        "time of jilghvani_{call} over time of Rust {call}: {:.3} by medians, {:.3} by least",
+        library.0 / rust.0,
+        library.1 / rust.1
+    );
+}
+
+/// Times one recycle of the library and of Rust on the same records, in turn, and prints both.
+fn bench_recycles(options: &Options) -> Result<(), String> {
+    let (plants, thousandths) = feeds();
+    let alike = plants.iter().zip(&thousandths).all(|(plant, &k)| {
+        let (mut ours, mut theirs) = (*plant, plant.columns());
+        let refusal = rust_recycle(&mut ours, k, &mut [0; 4]);
+        host::jilghvani_recycle(&mut theirs, k) == refusal && ours.columns() == theirs
+    });
+    println!("recycles of the same {RECORDS} records");
+    println!("both give the same: {}", if alike { "yes" } else { "NO" });
+    let records: Vec<Record> = plants.iter().map(Plant::columns).collect();
+    let (mut library, mut rust) = (Vec::new(), Vec::new());
+    for _ in 0..options.rounds {
+        library.push(time_calls(&records, &thousandths, |record, k, _| {
+            host::jilghvani_recycle(record, k)
+        }));
+        rust.push(time_calls(&plants, &thousandths, rust_recycle));
+    }
+    print_times("recycle", options.rounds, library, rust);
+    if alike {
+        Ok(())
+    } else {
+        Err("the two recycles differ".into())
+    }
+}
+
+/// Runs all benchmarks.
 fn main() -> ExitCode {
     let result = options().and_then(|options| {
         bench_programs(&options)?;
-        bench_feeds(&options)
+        bench_feeds(&options)?;
+        bench_recycles(&options)
     });
     match result {
         Ok(()) => ExitCode::SUCCESS,

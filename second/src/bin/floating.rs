@@ -3,7 +3,7 @@
 //! double precision, as simulators do it. For each balance it is counted how many runs
 //! do not close.
 //!
-//!     floating [--seed N] [--runs N] [--calls N]
+//!     floating [--seed N] [--runs N] [--calls N] [--recycles N]
 //!
 //! The double-precision link takes document 01's stages and house figures, with
 //! 004's real divisions where document 01 has floors, and real units: COD and
@@ -214,6 +214,7 @@ impl RealPlant {
             Call::Feed(k) => return self.feed(*k as f64 / 1000.0),
             Call::Return(k) => return self.give_back(*k as f64 / 1000.0),
             Call::Release(k) => self.release(*k as f64 / 1000.0),
+            Call::Recycle(k) => self.recycle(*k as f64 / 1000.0),
             Call::Settle(..) => unreachable!("a run settles nothing"),
         }
         true
@@ -250,6 +251,13 @@ impl RealPlant {
         let drawn = self.reject.map(|column| column * part);
         take(&mut self.reject, &drawn);
         add(&mut self.out, &measures(&drawn));
+    }
+
+    /// Draws this part of reject and adds it to the sludge; nothing comes in or goes out.
+    fn recycle(&mut self, part: f64) {
+        let drawn = self.reject.map(|column| column * part);
+        take(&mut self.reject, &drawn);
+        add(&mut self.sludge, &drawn);
     }
 
     /// Received less what is held and what went out, for each balance, in g.
@@ -295,6 +303,7 @@ impl ProvedPlant {
             Call::Feed(k) => self.feed(*k),
             Call::Return(k) => self.give_back(*k),
             Call::Release(k) => self.release(*k),
+            Call::Recycle(k) => (host::jilghvani_recycle(&mut self.record, *k), [0; 4]),
             Call::Settle(..) => unreachable!("a run settles nothing"),
         };
         if refusal != 0 {
@@ -373,13 +382,14 @@ fn received(random: &mut Random, size: &Size) -> Asm1 {
     })
 }
 
-/// The next call of a run.
-fn next_call(random: &mut Random, size: &Size) -> Call {
+/// The next call of a run; so many of a hundred recycle in the place of a release.
+fn next_call(random: &mut Random, size: &Size, recycles: u64) -> Call {
     let k = 1 + random.below(1000);
     match random.below(100) {
         0..=34 => Call::Receive(received(random, size)),
         35..=59 => Call::Feed(k),
         60..=79 => Call::Return(k),
+        number if number < 80 + recycles => Call::Recycle(k),
         _ => Call::Release(k),
     }
 }
@@ -429,11 +439,11 @@ impl Report {
     }
 }
 
-/// Runs one plant by both links, with the same calls.
-fn one_run(random: &mut Random, size: &Size, calls: u64, report: &mut Report) {
+/// Runs one plant by both links, with the same calls: so many, and so many recycles in a hundred.
+fn one_run(random: &mut Random, size: &Size, [calls, recycles]: [u64; 2], report: &mut Report) {
     let (mut plant, mut proved) = (RealPlant::fresh(), ProvedPlant::fresh());
     for _ in 0..calls {
-        let call = next_call(random, size);
+        let call = next_call(random, size, recycles);
         let accepted = proved.call(&call);
         report.judged_apart += u64::from(plant.call(&call) != accepted);
     }
@@ -441,30 +451,40 @@ fn one_run(random: &mut Random, size: &Size, calls: u64, report: &mut Report) {
     report.add(plant.gaps(), proved.gaps());
 }
 
-/// Reads the options: seed, runs of each size, calls of each run.
-fn options() -> Result<[u64; 3], String> {
-    let mut options = [4, 1000, 100];
+/// The options' names.
+const OPTIONS: [&str; 4] = ["--seed", "--runs", "--calls", "--recycles"];
+
+/// Reads the options: seed, runs of each size, calls of each run, recycles in a hundred calls (at
+/// most 20, and by default none).
+fn options() -> Result<[u64; 4], String> {
+    let mut options = [4, 1000, 100, 0];
     let mut words = std::env::args().skip(1);
     while let Some(word) = words.next() {
-        let which = ["--seed", "--runs", "--calls"].iter().position(|name| *name == word);
+        let which = OPTIONS.iter().position(|name| *name == word);
         let value = words.next().and_then(|value| value.parse().ok());
         match (which, value) {
             (Some(which), Some(value)) => options[which] = value,
             _ => return Err(format!("{word}: unknown, or without its number")),
         }
     }
-    Ok(options)
+    match options[3] {
+        0..=20 => Ok(options),
+        _ => Err("--recycles: at most 20".into()),
+    }
 }
 
 /// Runs every size and prints its table; gives how many balances of the proved link are open.
-fn run([seed, runs, calls]: [u64; 3]) -> u64 {
+fn run([seed, runs, calls, recycles]: [u64; 4]) -> u64 {
     println!("What the floating-point link loses: seed {seed}, {runs} runs of {calls} calls each");
+    if recycles > 0 {
+        println!("{recycles} of a hundred calls recycle in the place of a release");
+    }
     let mut open = 0;
     for (number, size) in SIZES.iter().enumerate() {
         let mut report = Report::default();
         for run in 0..runs {
             let mut random = Random::nth(seed, run * SIZES.len() as u64 + number as u64);
-            one_run(&mut random, size, calls, &mut report);
+            one_run(&mut random, size, [calls, recycles], &mut report);
         }
         report.print(size, runs);
         open += report.rows.iter().map(|row| row.proved_open).sum::<u64>();

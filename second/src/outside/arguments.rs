@@ -56,7 +56,7 @@ fn text_for(program: &Program, word: &str) -> Result<String, Trouble> {
 
 /// The words that the help must have: the forms' and the refusals' numbers.
 fn must_have() -> Vec<String> {
-    let forms = ["receive", "feed", "settle", "return", "release"].map(String::from);
+    let forms = ["receive", "feed", "settle", "return", "release", "recycle"].map(String::from);
     forms.into_iter().chain((1..=12).map(|number| number.to_string())).collect()
 }
 

@@ -55,10 +55,11 @@ pub fn steady_lines(count: usize) -> Vec<u8> {
     let mut random = Random::new(8);
     let mut bytes = Vec::new();
     for number in 0..count {
-        let call = match number % 5 {
+        let call = match number % 6 {
             2 => Call::Feed(500),
             3 => Call::Return(300),
-            4 => Call::Release(700),
+            4 => Call::Recycle(200),
+            5 => Call::Release(700),
             _ => sludge(&mut random),
         };
         bytes.extend(form(&mut random, &call));
@@ -92,4 +93,17 @@ pub fn right_answers(input: &[u8]) -> Vec<u8> {
     let held = printed.iter().rposition(|&byte| byte == b'\n').map_or(0, |end| end + 1);
     printed.truncate(held);
     printed
+}
+
+#[cfg(test)]
+mod tests {
+    use super::*;
+
+    /// Every steady line is accepted, the recycles among them.
+    #[test]
+    fn steady_lines_are_accepted() {
+        let answers = String::from_utf8(right_answers(&steady_lines(6000))).expect("text");
+        assert!(answers.lines().all(|answer| answer.starts_with("(ok ")));
+        assert_eq!(answers.lines().filter(|answer| *answer == "(ok recycle)").count(), 1000);
+    }
 }

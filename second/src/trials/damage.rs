@@ -15,6 +15,20 @@ const WORDS: [&str; 14] = [
     "receiv", "releas e", "settle 0",
 ];
 
+/// Words near the sixth form's. They stand apart from `WORDS`, so that the benchmark's session,
+/// which `damage` has a part in, is the same as before there was a sixth form.
+const NEAR_RECYCLE: [&str; 9] = [
+    "recycle",
+    "recycl",
+    "recycles",
+    "Recycle",
+    "rec",
+    "recycle 0",
+    "recycle 1000",
+    "re cycle",
+    "receivecycle",
+];
+
 /// Numbers that a number may be replaced by; some of them are still numbers.
 const NUMBERS: [&str; 26] = [
     "",
@@ -162,8 +176,7 @@ fn damage_numbers(random: &mut Random, line: &mut Vec<u8>) {
 fn damage_names(random: &mut Random, line: &mut Vec<u8>) {
     let names = names(line);
     if names.is_empty() || random.percent(15) {
-        let end = line.iter().position(|&byte| byte == b' ').unwrap_or(line.len() - 1);
-        return replace(line, (1, end.max(1)), random.one_of(&WORDS).as_bytes());
+        return replace_word(line, random.one_of(&WORDS));
     }
     let part = random.one_of(&names);
     match random.below(4) {
@@ -178,6 +191,17 @@ fn damage_names(random: &mut Random, line: &mut Vec<u8>) {
             replace(line, (end, end), &again);
         }
     }
+}
+
+/// Puts this word in the place of a form's own.
+fn replace_word(line: &mut Vec<u8>, word: &str) {
+    let end = line.iter().position(|&byte| byte == b' ').unwrap_or(line.len() - 1);
+    replace(line, (1, end.max(1)), word.as_bytes());
+}
+
+/// Another word in front, one that is nearly `recycle`; a form of one number may become one.
+pub fn near_recycle(random: &mut Random, line: &mut Vec<u8>) {
+    replace_word(line, random.one_of(&NEAR_RECYCLE));
 }
 
 /// A byte changed, doubled, lost, put in or put behind; a line cut, joined or made long.
@@ -240,6 +264,7 @@ fn behind_junk(random: &mut Random) -> Vec<u8> {
         &b"(feed 1000)"[..],
         b"(receive (ss 1))",
         b"(release 1)",
+        b"(recycle 1000)",
     ]));
     line
 }

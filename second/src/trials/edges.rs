@@ -78,6 +78,37 @@ pub fn ammonia_to_multiple(digester: &Digester, off: i64) -> Asm1 {
     v
 }
 
+/// Thousandths that may be drawn, half the time all of them.
+pub fn drawable(random: &mut Random) -> u64 {
+    match random.percent(50) {
+        true => 1000,
+        false => thousandths(random).clamp(1, 1000),
+    }
+}
+
+/// A vector to receive so that a recycle of k then just fits a sludge column or passes its
+/// ceiling by one; the record is within its ceilings.
+pub fn receive_before_recycle(random: &mut Random, plant: &Plant, k: u64) -> Asm1 {
+    let drawn = draw(&plant.reject, k);
+    let moved: Vec<usize> = (0..13).filter(|&column| drawn[column] > 0).collect();
+    let column = if moved.is_empty() { random.index(13) } else { random.one_of(&moved) };
+    let sum = plant.sludge[column] + drawn[column];
+    let mut v = [0; 13];
+    v[column] = (ASM1_CEILINGS[column] + random.below(2)).saturating_sub(sum);
+    v
+}
+
+/// Fills a sludge column so that a recycle of k just fits or passes the ceiling by one; now and
+/// then every column of sludge and reject is full.
+pub fn full_sludge(random: &mut Random, plant: &mut Plant, k: u64) {
+    if random.percent(10) {
+        (plant.sludge, plant.reject) = (ASM1_CEILINGS, ASM1_CEILINGS);
+    }
+    let v = receive_before_recycle(random, plant, k);
+    let sum = std::array::from_fn(|column| plant.sludge[column] + v[column]);
+    plant.sludge = amounts::lowered(&sum, &ASM1_CEILINGS);
+}
+
 /// A record on which a feed, a return or a receive stands at an edge.
 pub fn record_at_edge(random: &mut Random, scale: &Scale) -> Plant {
     let mut plant = amounts::record_within(random, scale);

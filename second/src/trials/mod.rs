@@ -22,7 +22,9 @@ use std::io::Write;
 /// A line that follows from the one before it, so that together they reach an edge.
 enum Step {
     FeedAll,
+    Settle,
     ReturnAll,
+    Recycle(u64),
     /// Receives ammonia until the digester's TKN would be this far from a multiple of ixe.
     ReceiveToMultiple(i64),
     /// Settles as much COD as inerts as the digester's TKN can return, and this many more.
@@ -53,6 +55,7 @@ pub fn form(random: &mut Random, call: &Call) -> Vec<u8> {
         Call::Feed(k) => write!(line, "(feed {k})"),
         Call::Return(k) => write!(line, "(return {k})"),
         Call::Release(k) => write!(line, "(release {k})"),
+        Call::Recycle(k) => write!(line, "(recycle {k})"),
     };
     written.expect("a vector takes every byte");
     line
@@ -89,12 +92,31 @@ impl Trial {
 
     /// A record to begin with or to go on with: of any size, at an edge, or above a ceiling.
     pub fn record(&mut self) -> Plant {
-        match self.random.below(10) {
+        match self.random.below(11) {
             0 => Plant::FRESH,
             1 => amounts::record_above(&mut self.random, &self.scale),
             2..=4 => edges::record_at_edge(&mut self.random, &self.scale),
+            5 => self.record_to_recycle(),
             _ => amounts::record(&mut self.random, &self.scale),
         }
+    }
+
+    /// A record with a sludge tank that the recycle asked for next just fits, or passes by one;
+    /// now and then a record above a ceiling, or thousandths at an edge.
+    fn record_to_recycle(&mut self) -> Plant {
+        let (random, scale) = (&mut self.random, &self.scale);
+        let k = edges::drawable(random);
+        let mut plant = amounts::record_within(random, scale);
+        edges::full_sludge(random, &mut plant, k);
+        if random.percent(10) {
+            amounts::put_above(random, &mut plant.reject, &ASM1_CEILINGS);
+        }
+        let asked = match random.percent(20) {
+            true => random.one_of(&[0, 1, 999, 1000, 1001, u64::MAX]),
+            false => k,
+        };
+        self.steps.push_front(Step::Recycle(asked));
+        plant
     }
 
     /// The next line for this record, without its newline.
@@ -104,8 +126,10 @@ impl Trial {
         }
         let call = self.call(plant);
         let mut line = form(&mut self.random, &call);
-        if self.random.percent(15) {
-            damage::damage(&mut self.random, &mut line);
+        match self.random.below(100) {
+            0..=14 => damage::damage(&mut self.random, &mut line),
+            15 => damage::near_recycle(&mut self.random, &mut line),
+            _ => {}
         }
         line
     }
@@ -114,7 +138,9 @@ impl Trial {
     pub fn call(&mut self, plant: &Plant) -> Call {
         match self.steps.pop_front() {
             Some(Step::FeedAll) => Call::Feed(1000),
+            Some(Step::Settle) => proposals::settle(&mut self.random, &plant.digester),
             Some(Step::ReturnAll) => Call::Return(1000),
+            Some(Step::Recycle(k)) => Call::Recycle(k),
             Some(Step::ReceiveToMultiple(off)) => {
                 Call::Receive(edges::ammonia_to_multiple(&plant.digester, off))
             }
@@ -161,17 +187,39 @@ impl Trial {
     fn free_call(&mut self, plant: &Plant) -> Call {
         let random = &mut self.random;
         match random.below(100) {
-            0..=24 => Call::Receive(amounts::asm1(random, &self.scale)),
-            25..=39 => {
+            0..=23 => Call::Receive(amounts::asm1(random, &self.scale)),
+            24..=37 => {
                 self.steps.push_back(Step::FeedAll);
                 Call::Receive(edges::receive_to_edge(random, &self.scale, &plant.sludge))
             }
-            40..=54 => Call::Feed(thousandths(random)),
-            55..=74 => proposals::settle(random, &plant.digester),
-            75..=86 => Call::Return(thousandths(random)),
-            87..=97 => Call::Release(thousandths(random)),
+            38..=52 => Call::Feed(thousandths(random)),
+            53..=71 => proposals::settle(random, &plant.digester),
+            72..=82 => Call::Return(thousandths(random)),
+            83..=90 => Call::Release(thousandths(random)),
+            91..=96 if random.percent(5) => self.recycle_edge(plant),
+            91..=96 => Call::Recycle(thousandths(random)),
+            97 => self.same_water(),
             _ => self.return_edge(),
         }
+    }
+
+    /// Receives what lets the recycle behind it just fit the sludge tank, or pass it by one.
+    fn recycle_edge(&mut self, plant: &Plant) -> Call {
+        let k = edges::drawable(&mut self.random);
+        if plant.test_record().is_err() {
+            return Call::Recycle(k);
+        }
+        self.steps.push_back(Step::Recycle(k));
+        Call::Receive(edges::receive_before_recycle(&mut self.random, plant, k))
+    }
+
+    /// Starts the steps that feed, settle, return and recycle the same water several times.
+    fn same_water(&mut self) -> Call {
+        for _ in 0..self.random.one_of(&[2, 3, 5]) {
+            let k = thousandths(&mut self.random);
+            self.steps.extend([Step::FeedAll, Step::Settle, Step::ReturnAll, Step::Recycle(k)]);
+        }
+        Call::Receive(amounts::asm1(&mut self.random, &self.scale))
     }
 
     /// Starts the steps that bring a return to the edge of refusal 5.

@@ -25,7 +25,7 @@ use Rattle.plant.specs.Record.{recordWithin}
 use Rattle.plant.specs.Answer.{unless, first}
 use Rattle.plant.specs.Calls.{refusalOf, settling}
 use Rattle.plant.proofs.Laws.Decision.{first-pass, first-none, first-passed, unless-passed, number-case, number-none, number-some}
-use Rattle.plant.proofs.Laws.Calls.{SettlePassed, settle-passed}
+use Rattle.plant.proofs.Laws.Calls.{SettlePassed, settle-passed, settle-passes}
 use Rattle.plant.proofs.Laws.Record.{digester-within}
 use Rattle.closing.specs.declared.Closed.{Closed}
 use Rattle.closing.specs.declared.Gaps.{Gaps}
@@ -150,14 +150,7 @@ settles f p d t =
     let fitted : within digesterCeilings v ≡ true = replaced-within d _ _ _ (t .proposed) (t .sin) (omega arith) (omega arith) in
     let cod : digesterCod old ≡ digesterCod v + closingGas old d = omega (arith, t .cod) in
     let tkn : digesterTkn f old ≡ digesterTkn f v = omega (arith, t .tkn) in
-    let oxygen = eq-eqb (digesterOxygen old) (digesterOxygen old) refl in
-    let nitrate = eq-eqb (digesterNitrate old) (digesterNitrate old) refl in
-    sym
-    (first-pass _ 1 _ (t .held)
-    (first-pass _ 3 _ fitted
-    (first-pass _ 7 _ (eq-eqb _ _ cod)
-    (first-pass _ 8 _ (eq-eqb _ _ tkn)
-    (first-pass _ 9 _ (rw oxygen nitrate) first-none)))))
+    settle-passes f p _ v (record { held = t .held; proposed = fitted; cod = cod; tkn = tkn; oxygen = refl; nitrate = refl })
 
 pub close-law : CloseLaw
 close-law f p d e =

@@ -2,68 +2,65 @@
 --
 --   Quantity      what a balance is about: a total of each vector, and what a call lets go of it
 --   Kept          one call keeps a quantity
---   receive-kept, feed-kept, settle-kept, return-kept, release-kept   each call does: a further call is one more of these
+--   done-kept     each call does where no refusal applies
+--   step-kept     any call does
 --   over          so does every list of calls
 --   cod-quantity, ..   the four quantities
 --   balance       BalanceLaw
-use mathlib.Core.Bool.{true, cond}
+use mathlib.Core.Bool.{cond}
 use mathlib.Core.List.{List, [], _∷_}
 use mathlib.Core.Path.{_≡_, refl}
 use Prim.Native.Nat.{ℕ, _+_, _≤_}
 use native.Mathlib.Omega.{arith}
-use lib.Dec.{eqb}
-use borrow.Author.Tests.{eqb-true}
+use borrow.Author.Tests.{ne-eqb}
 use Rattle.vectors.specs.declared.figures.Figures.{Figures}
 use Rattle.interface.specs.declared.feed.Fed as inFed
 use Rattle.interface.specs.declared.returning.Returned as inReturned
-use Rattle.vectors.specs.declared.units.Milligrams.{Milligrams}
 use Rattle.vectors.specs.Figures.{Permitted}
 use Rattle.vectors.specs.Draw.{drawn}
 use Rattle.vectors.specs.Totals.{asm1Cod, asm1Tkn, asm1Oxygen, asm1Nitrate, digesterCod, digesterTkn, digesterOxygen, digesterNitrate}
 use Rattle.interface.specs.Feed.{feedOf}
 use Rattle.interface.specs.Return.{returnOf}
 use Rattle.vectors.specs.Laws.{Linear}
-use Rattle.vectors.proofs.Laws.Columns.{both-true}
 use Rattle.vectors.proofs.Laws.Totals.{total-laws}
 use Rattle.interface.proofs.Laws.Feed.{feed-keeps}
 use Rattle.interface.proofs.Laws.Return.{return-keeps}
 use Rattle.plant.specs.declared.record.Plant.{Plant}
-use Rattle.plant.specs.declared.answer.Answer.{Answer}
-use Rattle.plant.specs.declared.answer.Answer.the-variants.{Received, Fed, Settled, Returned, Released, Refused}
+use Rattle.plant.specs.declared.answer.Answer.the-variants.{Fed, Returned}
 use Rattle.plant.specs.declared.answer.Call.{Call}
 use Rattle.plant.specs.declared.answer.Call.the-variants as call
 use Rattle.plant.specs.declared.answer.Request.{Request}
 use Rattle.plant.specs.declared.answer.Outcome.{Outcome}
+use Rattle.plant.specs.declared.answer.Told.{Told}
 use Rattle.plant.specs.Record.{freshPlant, thousandths}
-use Rattle.plant.specs.Answer.{told, refused, unless, first, decide}
-use Rattle.plant.specs.Calls.{receive, feed, settle, giveBack, release, stepBy, step}
-use Rattle.plant.specs.Balance.{after, sumOver, accepted, handedIn, handedOut, gasOf, ifAccepted, receivedBy, releasedBy}
-use Rattle.plant.specs.Balance.{gasBy, BalanceLaw}
+use Rattle.plant.specs.Answer.{nothing, told, refused, unless, first}
+use Rattle.plant.specs.Calls.{receive, feed, settle, giveBack, release, recycle, ruleBy, stepBy, step}
+use Rattle.plant.specs.Balance.{after, sumOver, counts, ifAccepted, receivedBy, releasedBy, gasBy, BalanceLaw}
 use Rattle.plant.proofs.Laws.Record.{thousandths-le}
 use Rattle.plant.proofs.Laws.Calls.{settle-passed}
 use Rattle.plant.proofs.Laws.Decision.{decide-case, first-passed, unless-passed}
 
 -- ---- quantities
 
--- a balance is about a total of each vector and what a call lets go of it, by the call and its answer; each call has to keep it
+-- a balance is about a total of each vector and what a call lets go of it, by what it tells and the gas COD that it is handed
 record Quantity (f : Figures) : Type 0 where
   asm1 : List ℕ → ℕ
   digester : List ℕ → ℕ
-  lost : Call → Answer → ℕ
+  lost : Told → ℕ → ℕ
   asm1-linear : Linear asm1
   digester-linear : Linear digester
-  refuses : (c : Call) (n : ℕ) → lost c (Refused n) ≡ 0
-  receives : lost call.Receive Received ≡ 0
-  feeds : (k : ℕ) (c : List ℕ) → feedOf f c .refusal ≡ 0
-      → let o = feedOf f c in asm1 c ≡ digester (o .vector) + lost (call.Feed k) (Fed (o .burnt) (o .oxygen) (o .nitrate) (o .warn))
-  settles : (g : Milligrams) (a d : List ℕ) → digesterCod a ≡ digesterCod d + g .0 → digesterTkn f a ≡ digesterTkn f d
-      → digesterOxygen a ≡ digesterOxygen d → digesterNitrate a ≡ digesterNitrate d → digester a ≡ digester d + lost (call.Settle g) Settled
-  returns : (k : ℕ) (c : List ℕ) → returnOf f c .refusal ≡ 0
-      → digester c ≡ asm1 (returnOf f c .vector) + lost (call.Return k) (Returned (returnOf f c .stripped))
-  releases : (k : ℕ) → lost (call.Release k) Released ≡ 0
+  -- a call that tells no value and is handed no gas, refused or not, lets nothing go
+  silent : (n : ℕ) → lost (nothing n) 0 ≡ 0
+  feeds : (c : List ℕ) → feedOf f c .refusal ≡ 0
+      → let o = feedOf f c in asm1 c ≡ digester (o .vector) + lost (told (Fed (o .burnt) (o .oxygen) (o .nitrate) (o .warn))) 0
+  settles : (g : ℕ) (a d : List ℕ) → digesterCod a ≡ digesterCod d + g → digesterTkn f a ≡ digesterTkn f d
+      → digesterOxygen a ≡ digesterOxygen d → digesterNitrate a ≡ digesterNitrate d → digester a ≡ digester d + lost (nothing 0) g
+  returns : (c : List ℕ) → returnOf f c .refusal ≡ 0
+      → digester c ≡ asm1 (returnOf f c .vector) + lost (told (Returned (returnOf f c .stripped))) 0
 
-passed-le : (k : ℕ) → unless (thousandths k) 2 ≡ 0 → k ≤ 1000
-passed-le k e = thousandths-le k (unless-passed (thousandths k) 2 tt e)
+-- the test of k, behind that of the record, passed
+k-le : (k n : ℕ) (ns : List ℕ) → first (n ∷ unless (thousandths k) 2 ∷ ns) ≡ 0 → k ≤ 1000
+k-le k n ns e = thousandths-le k (unless-passed _ 2 tt (first-passed _ _ (first-passed _ _ e .1) .0))
 
 module _ (f : Figures) (q : Quantity f) where
   abbrev inTanks : Plant → ℕ
@@ -72,71 +69,42 @@ module _ (f : Figures) (q : Quantity f) where
   -- the call c, handed v, with the outcome o
   abbrev Kept : Plant → Call → List ℕ → Outcome → Type 0
   Kept p c v o =
-      inTanks p + ifAccepted o (handedIn (q .asm1) c v)
-      ≡ inTanks (o .plant) + ifAccepted o (handedOut (q .asm1) c (o .vector)) + q .lost c (o .answer)
+      inTanks p + ifAccepted o (cond (counts c .received) (q .asm1 v) 0)
+      ≡ inTanks (o .plant)
+      + ifAccepted o (cond (counts c .released) (q .asm1 (o .vector)) 0)
+      + q .lost (told (o .answer)) (ifAccepted o (counts c .gas))
 
-  refused-kept : (p : Plant) (c : Call) (v : List ℕ) (n : ℕ) → Kept p c v (refused p n)
-  refused-kept p c v n = omega (arith, q .refuses c n)
+  refused-kept : (p : Plant) (c : Call) (v : List ℕ) (n : ℕ) → (n ≡ 0 → ⊥) → Kept p c v (refused p n)
+  refused-kept p c v n h = rw (ne-eqb n 0 h) (omega (arith, q .silent n))
 
-  receive-kept : (p : Plant) (v : List ℕ) → Kept p call.Receive v (receive p v)
-  unfolding receive
-  receive-kept p v =
-      decide-case (Kept p call.Receive v) p _ _
-      (λ e. omega (arith, q .asm1-linear .adds p.sludge v, q .receives))
-      (refused-kept p call.Receive v _)
-
-  feed-kept : (p : Plant) (k : ℕ) (v : List ℕ) → Kept p (call.Feed k) v (feed f p k)
-  unfolding feed
-  feed-kept p k v =
+  -- each call where no refusal applies: a further call is one more row
+  done-kept : (p : Plant) (c : Call) (v d : List ℕ) → first (ruleBy f p c v d .tests) ≡ 0 → Kept p c v (ruleBy f p c v d .done)
+  unfolding receive feed settle giveBack release recycle
+  done-kept p call.Receive v d e = omega (arith, q .asm1-linear .adds p.sludge v, q .silent 0)
+  done-kept p (call.Feed k) v d e =
       let c = drawn k p.sludge in
-      decide-case (Kept p (call.Feed k) v) p _ _
-      (λ e.
-      let e1 = first-passed _ _ e .1 in
-      let e2 = first-passed _ _ e1 in
-      let h = passed-le k (e2 .0) in
-      let fed = q .feeds k c (first-passed _ _ (e2 .1) .0) in
-      omega (arith, q .asm1-linear .splits k h p.sludge, q .digester-linear .adds p.digester (feedOf f c .vector), fed))
-      (refused-kept p (call.Feed k) v _)
-
-  settle-kept : (p : Plant) (g : Milligrams) (v d : List ℕ) → Kept p (call.Settle g) v (settle f p g d)
-  unfolding settle
-  settle-kept p g v d =
-      decide-case (Kept p (call.Settle g) v) p _ _
-      (λ e.
+      let e2 = first-passed _ _ (first-passed _ _ e .1) .1 in
+      let fed = q .feeds c (first-passed _ _ e2 .0) in
+      omega (arith, q .asm1-linear .splits k (k-le k _ _ e) p.sludge, q .digester-linear .adds p.digester (feedOf f c .vector), fed)
+  done-kept p (call.Settle g) v d e =
       let s = settle-passed f p g d e in
-      omega (arith, q .settles g p.digester d (s .cod) (s .tkn) (s .oxygen) (s .nitrate)))
-      (refused-kept p (call.Settle g) v _)
-
-  return-kept : (p : Plant) (k : ℕ) (v : List ℕ) → Kept p (call.Return k) v (giveBack f p k)
-  unfolding giveBack
-  return-kept p k v =
+      omega (arith, q .settles (g .0) p.digester d (s .cod) (s .tkn) (s .oxygen) (s .nitrate))
+  done-kept p (call.Return k) v d e =
       let c = drawn k p.digester in
-      decide-case (Kept p (call.Return k) v) p _ _
-      (λ e.
-      let e2 = first-passed _ _ (first-passed _ _ e .1) in
-      let h = passed-le k (e2 .0) in
-      let given = q .returns k c (first-passed _ _ (e2 .1) .0) in
-      omega (arith, q .digester-linear .splits k h p.digester, q .asm1-linear .adds p.reject (returnOf f c .vector), given))
-      (refused-kept p (call.Return k) v _)
-
-  release-kept : (p : Plant) (k : ℕ) (v : List ℕ) → Kept p (call.Release k) v (release p k)
-  unfolding release
-  release-kept p k v =
-      decide-case (Kept p (call.Release k) v) p _ _
-      (λ e. omega (arith, q .asm1-linear .splits k (passed-le k (first-passed _ _ (first-passed _ _ e .1) .0)) p.reject, q .releases k))
-      (refused-kept p (call.Release k) v _)
+      let e2 = first-passed _ _ (first-passed _ _ e .1) .1 in
+      let given = q .returns c (first-passed _ _ e2 .0) in
+      omega (arith, q .digester-linear .splits k (k-le k _ _ e) p.digester, q .asm1-linear .adds p.reject (returnOf f c .vector), given)
+  done-kept p (call.Release k) v d e = omega (arith, q .asm1-linear .splits k (k-le k _ _ e) p.reject, q .silent 0)
+  done-kept p (call.Recycle k) v d e =
+      omega (arith, q .asm1-linear .splits k (k-le k _ _ e) p.reject, q .asm1-linear .adds p.sludge (drawn k p.reject), q .silent 0)
 
   step-kept : (p : Plant) (c : Call) (v d : List ℕ) → Kept p c v (stepBy f p c v d)
-  step-kept p call.Receive v d = receive-kept p v
-  step-kept p (call.Feed k) v d = feed-kept p k v
-  step-kept p (call.Settle g) v d = settle-kept p g v d
-  step-kept p (call.Return k) v d = return-kept p k v
-  step-kept p (call.Release k) v d = release-kept p k v
+  step-kept p c v d = decide-case (Kept p c v) p _ _ (done-kept p c v d) (refused-kept p c v _)
 
   -- ---- a list of calls
 
   abbrev let-go : Request → Outcome → ℕ
-  let-go r o = q .lost (r .call) (o .answer)
+  let-go r o = q .lost (told (o .answer)) (gasBy r o)
 
   over : (p : Plant) (rs : List Request)
       → inTanks p + sumOver (receivedBy (q .asm1)) f p rs
@@ -152,8 +120,8 @@ module _ (f : Figures) (q : Quantity f) where
 -- ---- the four quantities
 
 -- what a feed burns, a settle's gas and what a return strips
-codLost : Call → Answer → ℕ
-codLost c a = told a .burnt + cond (accepted a) (gasOf c) 0 + told a .stripped
+codLost : Told → ℕ → ℕ
+codLost t g = t .burnt + g + t .stripped
 
 cod-quantity : (f : Figures) → Permitted f → Quantity f
 unfolding codLost
@@ -164,12 +132,10 @@ cod-quantity f h =
       lost = codLost;
       asm1-linear = total-laws .asm1-cod;
       digester-linear = total-laws .digester-cod;
-      refuses = λ c n. refl;
-      receives = refl;
-      feeds = λ k c e. omega (arith, feed-keeps f h c e .cod);
+      silent = λ n. refl;
+      feeds = λ c e. omega (arith, feed-keeps f h c e .cod);
       settles = λ g a d cod tkn oxygen nitrate. omega arith;
-      returns = λ k c e. omega (arith, return-keeps f c e .cod);
-      releases = λ k. refl;
+      returns = λ c e. omega (arith, return-keeps f c e .cod);
     }
 
 tkn-quantity : (f : Figures) → Permitted f → Quantity f
@@ -177,15 +143,13 @@ tkn-quantity f h =
     record {
       asm1 = asm1Tkn f;
       digester = digesterTkn f;
-      lost = λ c a. 0;
+      lost = λ t g. 0;
       asm1-linear = total-laws .asm1-tkn f;
       digester-linear = total-laws .digester-tkn f;
-      refuses = λ c n. refl;
-      receives = refl;
-      feeds = λ k c e. omega (arith, feed-keeps f h c e .tkn);
+      silent = λ n. refl;
+      feeds = λ c e. omega (arith, feed-keeps f h c e .tkn);
       settles = λ g a d cod tkn oxygen nitrate. omega arith;
-      returns = λ k c e. omega (arith, return-keeps f c e .tkn);
-      releases = λ k. refl;
+      returns = λ c e. omega (arith, return-keeps f c e .tkn);
     }
 
 oxygen-quantity : (f : Figures) → Permitted f → Quantity f
@@ -193,15 +157,13 @@ oxygen-quantity f h =
     record {
       asm1 = asm1Oxygen;
       digester = digesterOxygen;
-      lost = λ c a. told a .oxygen;
+      lost = λ t g. t .oxygen;
       asm1-linear = total-laws .asm1-oxygen;
       digester-linear = total-laws .digester-oxygen;
-      refuses = λ c n. refl;
-      receives = refl;
-      feeds = λ k c e. feed-keeps f h c e .oxygen;
+      silent = λ n. refl;
+      feeds = λ c e. feed-keeps f h c e .oxygen;
       settles = λ g a d cod tkn oxygen nitrate. omega arith;
-      returns = λ k c e. omega (arith, return-keeps f c e .oxygen);
-      releases = λ k. refl;
+      returns = λ c e. omega (arith, return-keeps f c e .oxygen);
     }
 
 nitrate-quantity : (f : Figures) → Permitted f → Quantity f
@@ -209,22 +171,20 @@ nitrate-quantity f h =
     record {
       asm1 = asm1Nitrate;
       digester = digesterNitrate;
-      lost = λ c a. told a .nitrate;
+      lost = λ t g. t .nitrate;
       asm1-linear = total-laws .asm1-nitrate;
       digester-linear = total-laws .digester-nitrate;
-      refuses = λ c n. refl;
-      receives = refl;
-      feeds = λ k c e. feed-keeps f h c e .nitrate;
+      silent = λ n. refl;
+      feeds = λ c e. feed-keeps f h c e .nitrate;
       settles = λ g a d cod tkn oxygen nitrate. omega arith;
-      returns = λ k c e. omega (arith, return-keeps f c e .nitrate);
-      releases = λ k. refl;
+      returns = λ c e. omega (arith, return-keeps f c e .nitrate);
     }
 
 -- ---- the law
 
 -- the three sums of COD that is let go are the sum of the three
 cod-sums : (f : Figures) (p : Plant) (rs : List Request)
-    → sumOver (λ r o. codLost (r .call) (o .answer)) f p rs
+    → sumOver (λ r o. codLost (told (o .answer)) (gasBy r o)) f p rs
     ≡ sumOver (λ r o. told (o .answer) .burnt) f p rs + sumOver gasBy f p rs + sumOver (λ r o. told (o .answer) .stripped) f p rs
 unfolding codLost
 cod-sums f p [] = refl

@@ -1,16 +1,17 @@
 -- An answer tells exactly the refusal that applies first, or what its call tells. Assumes nothing.
 --
 --   decide-told     what a decision tells, by the number that it was made by
+--   tells-by        what each call tells where no refusal applies
 --   tells           TellsLaw
 --   exact           ExactLaw
 --   answered        the two clauses of a call's contract, by the first
---   settle-passed   what an accepted settle tells of its tests
+--   settle-passed, settle-passes   what an accepted settle tells of its tests, and that no more is needed
 use mathlib.Core.Bool.{Bool, true, false, cond}
 use mathlib.Core.List.{List}
 use mathlib.Core.Path.{_≡_, refl, sym, ap, _∙_}
 use Prim.Native.Nat.{ℕ, _+_}
 use lib.Dec.{eqb}
-use borrow.Author.Tests.{eqb-true}
+use borrow.Author.Tests.{eq-eqb, eqb-true}
 use Rattle.vectors.specs.declared.figures.Figures.{Figures}
 use Rattle.vectors.specs.declared.units.Milligrams.{Milligrams}
 use Rattle.vectors.specs.Columns.{digesterCeilings, within}
@@ -24,9 +25,9 @@ use Rattle.plant.specs.declared.answer.Outcome.{Outcome}
 use Rattle.plant.specs.declared.answer.Told.{Told}
 use Rattle.plant.specs.Record.{recordWithin}
 use Rattle.plant.specs.Answer.{nothing, told, refused, first, decide}
-use Rattle.plant.specs.Calls.{receive, feed, settle, giveBack, release, step, stepBy, settleTests, testsBy, tellsBy, toldOf}
+use Rattle.plant.specs.Calls.{receive, feed, settle, giveBack, release, recycle, ruleBy, step, refusalOf, tellsBy, toldOf, settling}
 use Rattle.plant.specs.Calls.{TellsLaw, ExactLaw}
-use Rattle.plant.proofs.Laws.Decision.{first-passed, unless-passed}
+use Rattle.plant.proofs.Laws.Decision.{first-pass, first-none, first-passed, unless-passed}
 
 decide-told : (p : Plant) (n : ℕ) (o : Outcome) → told (decide p n o .answer) ≡ cond (eqb n 0) (told (o .answer)) (nothing n)
 unfolding decide
@@ -36,18 +37,22 @@ decide-told p n o = go (eqb n 0)
     go true = refl
     go false = refl
 
+-- what each call tells where no refusal applies, which is no number: a further call is one more row
 tells-by : (f : Figures) (p : Plant) (c : Call) (v d : List ℕ)
-    → let n = first (testsBy f p c v d) in told (stepBy f p c v d .answer) ≡ cond (eqb n 0) (tellsBy f p c) (nothing n)
-unfolding receive feed settle giveBack release
-tells-by f p call.Receive v d = decide-told p _ _
-tells-by f p (call.Feed k) v d = decide-told p _ _
-tells-by f p (call.Settle gas) v d = decide-told p _ _
-tells-by f p (call.Return k) v d = decide-told p _ _
-tells-by f p (call.Release k) v d = decide-told p _ _
+    → (told (ruleBy f p c v d .done .answer) ≡ tellsBy f p c) × (tellsBy f p c .number ≡ 0)
+unfolding receive feed settle giveBack release recycle
+tells-by f p call.Receive v d = (refl, refl)
+tells-by f p (call.Feed k) v d = (refl, refl)
+tells-by f p (call.Settle gas) v d = (refl, refl)
+tells-by f p (call.Return k) v d = (refl, refl)
+tells-by f p (call.Release k) v d = (refl, refl)
+tells-by f p (call.Recycle k) v d = (refl, refl)
 
 pub tells : TellsLaw
 unfolding toldOf
-tells f p r = tells-by f p (r .call) (r .sludge) (r .digester)
+tells f p r =
+    decide-told p (refusalOf f p r) _
+    ∙ ap (λ (t : Told). cond (eqb (refusalOf f p r) 0) t (nothing (refusalOf f p r))) (tells-by f p (r .call) (r .sludge) (r .digester) .0)
 
 -- the number of what is told, where the call tells no number of its own
 number-is : (n : ℕ) (t : Told) → t .number ≡ 0 → cond (eqb n 0) t (nothing n) .number ≡ n
@@ -57,16 +62,9 @@ number-is n t h = go (eqb n 0) refl
     go true e = h ∙ sym (eqb-true n 0 e)
     go false e = refl
 
-no-number : (f : Figures) (p : Plant) (c : Call) → tellsBy f p c .number ≡ 0
-no-number f p call.Receive = refl
-no-number f p (call.Feed k) = refl
-no-number f p (call.Settle gas) = refl
-no-number f p (call.Return k) = refl
-no-number f p (call.Release k) = refl
-
 pub exact : ExactLaw
 unfolding toldOf
-exact f p r = ap (λ (t : Told). t .number) (tells f p r) ∙ number-is _ _ (no-number f p (r .call))
+exact f p r = ap (λ (t : Told). t .number) (tells f p r) ∙ number-is _ _ (tells-by f p (r .call) (r .sludge) (r .digester) .1)
 
 pub answered : (f : Figures) (p : Plant) (r : Request) {o : Outcome} → o ≡ step f p r
     → (o ≡ step f p r) × (told (o .answer) ≡ toldOf f p r)
@@ -82,7 +80,8 @@ pub record SettlePassed (f : Figures) (p : Plant) (g : Milligrams) (d : List ℕ
   pub oxygen : digesterOxygen p.digester ≡ digesterOxygen d
   pub nitrate : digesterNitrate p.digester ≡ digesterNitrate d
 
-pub settle-passed : (f : Figures) (p : Plant) (g : Milligrams) (d : List ℕ) → first (settleTests f p g d) ≡ 0 → SettlePassed f p g d
+pub settle-passed : (f : Figures) (p : Plant) (g : Milligrams) (d : List ℕ) → refusalOf f p (settling g d) ≡ 0 → SettlePassed f p g d
+unfolding settle
 settle-passed f p g d e =
     let at-1 = first-passed _ _ e in
     let at-3 = first-passed _ _ (at-1 .1) in
@@ -97,3 +96,16 @@ settle-passed f p g d e =
       oxygen = eqb-true _ _ (carried .0);
       nitrate = eqb-true _ _ (carried .1);
     }
+
+-- and back
+pub settle-passes : (f : Figures) (p : Plant) (g : Milligrams) (d : List ℕ) → SettlePassed f p g d → refusalOf f p (settling g d) ≡ 0
+unfolding settle
+settle-passes f p g d s =
+    let oxygen = eq-eqb (digesterOxygen p.digester) (digesterOxygen d) (s .oxygen) in
+    let nitrate = eq-eqb (digesterNitrate p.digester) (digesterNitrate d) (s .nitrate) in
+    sym
+    (first-pass _ 1 _ (s .held)
+    (first-pass _ 3 _ (s .proposed)
+    (first-pass _ 7 _ (eq-eqb _ _ (s .cod))
+    (first-pass _ 8 _ (eq-eqb _ _ (s .tkn))
+    (first-pass _ 9 _ (rw oxygen nitrate) first-none)))))

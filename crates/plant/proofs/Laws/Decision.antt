@@ -97,9 +97,10 @@ number-none n a b h = rw (eq-eqb n 0 h)
 pub number-some : {A : Type 0} (n : ℕ) (a b : A) → (n ≡ 0 → ⊥) → cond (eqb n 0) a b ≡ b
 number-some n a b h = rw (ne-eqb n 0 h)
 
-pub decide-case : (P : Outcome → Type 0) (p : Plant) (n : ℕ) (o : Outcome) → (n ≡ 0 → P o) → P (refused p n) → P (decide p n o)
+pub decide-case : (P : Outcome → Type 0) (p : Plant) (n : ℕ) (o : Outcome) → (n ≡ 0 → P o) → ((n ≡ 0 → ⊥) → P (refused p n))
+    → P (decide p n o)
 unfolding decide
-decide-case P p n o taken sent = number-case P n o (refused p n) taken (λ e. sent)
+decide-case P p n o taken sent = number-case P n o (refused p n) taken sent
 
 pub first-passed : (n : ℕ) (ns : List ℕ) → first (n ∷ ns) ≡ 0 → (n ≡ 0) × (first ns ≡ 0)
 unfolding first

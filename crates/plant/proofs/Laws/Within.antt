@@ -2,7 +2,7 @@
 --
 --   rest-within    what a draw leaves is within the ceilings
 --   tanks-within   three tanks within their ceilings are a record within its own
---   receive-within, feed-within, settle-within, return-within, release-within   each call leaves such a record: a further call is one more of these
+--   done-within    each call leaves such a record where no refusal applies
 --   step-within    any call does
 --   after-within   so does every list of calls
 --   fresh-within   a fresh record is one
@@ -15,7 +15,6 @@ use native.Mathlib.Omega.{arith}
 use lib.Dec.{leb}
 use borrow.Author.Tests.{leb-true, le-leb}
 use Rattle.vectors.specs.declared.figures.Figures.{Figures}
-use Rattle.vectors.specs.declared.units.Milligrams.{Milligrams}
 use Rattle.vectors.specs.Columns.{asm1Ceilings, digesterCeilings, within}
 use Rattle.vectors.specs.Draw.{remainder, rest}
 use Rattle.vectors.proofs.Laws.Columns.{both-true}
@@ -25,7 +24,8 @@ use Rattle.plant.specs.declared.answer.Call.the-variants as call
 use Rattle.plant.specs.declared.answer.Request.{Request}
 use Rattle.plant.specs.declared.answer.Outcome.{Outcome}
 use Rattle.plant.specs.Record.{freshPlant, recordWithin}
-use Rattle.plant.specs.Calls.{receive, feed, settle, giveBack, release, stepBy, step}
+use Rattle.plant.specs.Answer.{first}
+use Rattle.plant.specs.Calls.{receive, feed, settle, giveBack, release, recycle, ruleBy, step, refusalOf}
 use Rattle.plant.specs.Balance.{after, codIn, tknIn, oxygenIn, nitrateIn}
 use Rattle.plant.specs.Held.{heldTotals, heldOf}
 use Rattle.plant.proofs.Laws.Record.{sludge-within, digester-within, reject-within, held-within}
@@ -54,60 +54,33 @@ abbrev Stays : Outcome → Type 0
 Stays o = recordWithin (o .plant) ≡ true
 
 module _ (f : Figures) (p : Plant) (h : recordWithin p ≡ true) where
-  receive-within : (v : List ℕ) → Stays (receive p v)
-  unfolding receive
-  receive-within v =
-      decide-case Stays p _ _
-      (λ e.
+  -- each call where no refusal applies: a further call is one more row
+  done-within : (c : Call) (v d : List ℕ) → first (ruleBy f p c v d .tests) ≡ 0 → Stays (ruleBy f p c v d .done)
+  unfolding receive feed settle giveBack release recycle
+  done-within call.Receive v d e =
       let e2 = first-passed _ _ (first-passed _ _ e .1) .1 in
-      tanks-within _ (unless-passed _ 10 tt (first-passed _ _ e2 .0)) (digester-within p h) (reject-within p h))
-      h
-
-  feed-within : (k : ℕ) → Stays (feed f p k)
-  unfolding feed
-  feed-within k =
-      decide-case Stays p _ _
-      (λ e.
+      tanks-within _ (unless-passed _ 10 tt (first-passed _ _ e2 .0)) (digester-within p h) (reject-within p h)
+  done-within (call.Feed k) v d e =
       let e2 = first-passed _ _ (first-passed _ _ e .1) .1 in
-      let e3 = first-passed _ _ e2 .1 in
-      tanks-within _ (rest-within k asm1Ceilings p.sludge (sludge-within p h)) (unless-passed _ 10 tt (first-passed _ _ e3 .0)) (reject-within p h))
-      h
-
-  settle-within : (g : Milligrams) (d : List ℕ) → Stays (settle f p g d)
-  unfolding settle
-  settle-within g d =
-      decide-case Stays p _ _
-      (λ e.
+      let fits = unless-passed _ 10 tt (first-passed _ _ (first-passed _ _ e2 .1) .0) in
+      tanks-within _ (rest-within k asm1Ceilings p.sludge (sludge-within p h)) fits (reject-within p h)
+  done-within (call.Settle g) v d e =
       let e1 = first-passed _ _ e .1 in
-      tanks-within _ (sludge-within p h) (unless-passed _ 3 tt (first-passed _ _ e1 .0)) (reject-within p h))
-      h
-
-  return-within : (k : ℕ) → Stays (giveBack f p k)
-  unfolding giveBack
-  return-within k =
-      decide-case Stays p _ _
-      (λ e.
+      tanks-within _ (sludge-within p h) (unless-passed _ 3 tt (first-passed _ _ e1 .0)) (reject-within p h)
+  done-within (call.Return k) v d e =
       let e2 = first-passed _ _ (first-passed _ _ e .1) .1 in
-      let e3 = first-passed _ _ e2 .1 in
-      tanks-within _ (sludge-within p h) (rest-within k digesterCeilings p.digester (digester-within p h)) (unless-passed _ 10 tt (first-passed _ _ e3 .0)))
-      h
-
-  release-within : (k : ℕ) → Stays (release p k)
-  unfolding release
-  release-within k =
-      decide-case Stays p _ _
-      (λ e. tanks-within _ (sludge-within p h) (digester-within p h) (rest-within k asm1Ceilings p.reject (reject-within p h)))
-      h
-
-  by-within : (c : Call) (v d : List ℕ) → Stays (stepBy f p c v d)
-  by-within call.Receive v d = receive-within v
-  by-within (call.Feed k) v d = feed-within k
-  by-within (call.Settle g) v d = settle-within g d
-  by-within (call.Return k) v d = return-within k
-  by-within (call.Release k) v d = release-within k
+      let fits = unless-passed _ 10 tt (first-passed _ _ (first-passed _ _ e2 .1) .0) in
+      tanks-within _ (sludge-within p h) (rest-within k digesterCeilings p.digester (digester-within p h)) fits
+  done-within (call.Release k) v d e =
+      tanks-within _ (sludge-within p h) (digester-within p h) (rest-within k asm1Ceilings p.reject (reject-within p h))
+  done-within (call.Recycle k) v d e =
+      let e2 = first-passed _ _ (first-passed _ _ e .1) .1 in
+      let fits = unless-passed _ 10 tt (first-passed _ _ e2 .0) in
+      tanks-within _ fits (digester-within p h) (rest-within k asm1Ceilings p.reject (reject-within p h))
 
 pub step-within : (f : Figures) (p : Plant) (r : Request) → recordWithin p ≡ true → recordWithin (step f p r .plant) ≡ true
-step-within f p r h = by-within f p h (r .call) (r .sludge) (r .digester)
+step-within f p r h =
+    decide-case Stays p (refusalOf f p r) _ (done-within f p h (r .call) (r .sludge) (r .digester)) (λ n. h)
 
 -- ---- a list of calls
 

@@ -4,7 +4,8 @@
 --   piece-..                                    a field behind a space and a bracket
 --   add-none, add-again, add-first, add-marked              a further field: none, one whose column was named, one that is the first
 --   fields-unclosed, fields-go, fields-stop, fields-end   one turn of a loop over fields
---   form-is, settle-split, ..                   a form, by the place of its first space
+--   form-receive, form-settle, form-number, ..  a form, by the place of its first space
+--   call-found, call-further                    the call of a word: it is the table's first, or a further one's
 --   line-..                                     a whole line
 use mathlib.Core.Bool.{Bool, true, false, cond, and-false}
 use mathlib.Core.List.{List, [], _∷_}
@@ -21,16 +22,19 @@ use Rattle.reading.specs.declared.number.Number.{Number}
 use Rattle.reading.specs.declared.number.Number.the-variants.{NotANumber}
 use Rattle.reading.specs.declared.names.Column.{Column}
 use Rattle.reading.specs.declared.names.Column.the-variants.{At, Unknown}
-use Rattle.reading.specs.declared.names.Vector.the-variants.{Digester}
-use Rattle.reading.specs.declared.form.Word.{Word}
+use Rattle.reading.specs.declared.names.Vector.the-variants.{Sludge, Digester}
+use Rattle.reading.specs.declared.form.Form.{Form}
+use Rattle.reading.specs.declared.form.Form.the-variants.{Asked}
 use Rattle.reading.specs.declared.form.Line.{Line}
 use Rattle.reading.specs.declared.fields.Field.{Field}
 use Rattle.reading.specs.declared.fields.Field.the-variants.{Of, NotAField}
 use Rattle.reading.specs.declared.fields.Fields.{Fields}
-use Rattle.reading.specs.Text.{upTo, behind, pieces}
+use Rattle.reading.specs.Text.{ascii, sameBytes, upTo, behind, pieces}
 use Rattle.reading.specs.Number.{readNumber}
 use Rattle.reading.specs.Names.{namesOf, columnOf}
-use Rattle.reading.specs.Form.{fieldOf, readField, readPiece, noFields, addField, columnIn, numberIn, atEnd, whenOk, readPieces, readFields, noForm, settleLine, settleRest, wordOf, formOf, readForm, inBrackets, readLine}
+use Rattle.reading.specs.Form.{fieldOf, readField, readPiece, noFields, addField, columnIn, numberIn, atEnd, whenOk}
+use Rattle.reading.specs.Form.{readPieces, readFields, noForm, receiveLine, settleLine, settleRest, Word, callBy, numberLine}
+use Rattle.reading.specs.Form.{formOf, readForm, inBrackets, readLine}
 use Rattle.reading.proofs.Laws.Text.{rest-of, upTo-place, behind-drop, pieces-cut, pieces-last, pieces-some}
 use Rattle.reading.proofs.Laws.Number.{number-empty}
 
@@ -173,7 +177,10 @@ module _ (t : List ℕ) (k : ℕ) (e : k ≡ 0 + length (upTo 32 t)) where
   behind-part = rest-of t (k + 1) ∙ ap (λ (j : ℕ). drop j t) (add-one k ∙ ap suc (e ∙ zero-add (length (upTo 32 t)))) ∙ behind-drop 32 t
 
   nothing-behind : length t ≤ k → behind 32 t ≡ []
-  nothing-behind h = sym behind-part ∙ ap (take (length t - (k + 1))) (drop-of-length-le t {i = k + 1} (omega arith)) ∙ take-nil (length t - (k + 1))
+  nothing-behind h =
+      sym behind-part
+      ∙ ap (take (length t - (k + 1))) (drop-of-length-le t {i = k + 1} (omega arith))
+      ∙ take-nil (length t - (k + 1))
 
   pub number-none : length t ≤ k → NotANumber ≡ readNumber (behind 32 t)
   number-none h = sym (ap readNumber (nothing-behind h) ∙ number-empty [] refl)
@@ -185,9 +192,35 @@ module _ (t : List ℕ) (k : ℕ) (e : k ≡ 0 + length (upTo 32 t)) where
   unfolding settleRest
   settle-split = ap₂ (λ (x y : List ℕ). settleLine (readNumber x) (readFields (namesOf Digester) y)) (upTo-place 32 t k e) rest-part
 
-  pub form-is : {v w : Word} → v ≡ wordOf (take k t) → v ≡ w → formOf w t ≡ readForm t
-  unfolding readForm
-  form-is p q = ap (λ (x : Word). formOf x t) (sym q ∙ p ∙ ap wordOf (upTo-place 32 t k e))
+  -- a word test of the code is one of the definition
+  word-is : (w : List ℕ) {b : Bool} → sameBytes (take k t) w ≡ b → sameBytes (upTo 32 t) w ≡ b
+  word-is w h = ap (λ (x : List ℕ). sameBytes x w) (sym (upTo-place 32 t k e)) ∙ h
+
+  pub form-receive : sameBytes (take k t) (ascii "receive") ≡ true
+      → receiveLine (readFields (namesOf Sludge) (take (length t - k) (drop k t))) ≡ readForm t
+  unfolding formOf
+  form-receive h = rw (word-is _ h) (ap (λ (x : List ℕ). receiveLine (readFields (namesOf Sludge) x)) rest-part)
+
+  pub form-settle : sameBytes (take k t) (ascii "receive") ≡ false → sameBytes (take k t) (ascii "settle") ≡ true
+      → settleRest (behind 32 t) ≡ readForm t
+  unfolding formOf
+  form-settle h i = rw (word-is _ h, word-is _ i)
+
+  pub form-number : sameBytes (take k t) (ascii "receive") ≡ false → sameBytes (take k t) (ascii "settle") ≡ false
+      → numberLine (take k t) (readNumber (behind 32 t)) ≡ readForm t
+  unfolding formOf
+  form-number h i = rw (word-is _ h, word-is _ i) (ap (λ (x : List ℕ). numberLine x (readNumber (behind 32 t))) (upTo-place 32 t k e))
+
+-- ---- the call of a word, by a table
+
+module _ (r : Word) (rs : List Word) (w : List ℕ) (k : ℕ) where
+  pub call-found : sameBytes w (ascii r.word) ≡ true → Asked (r .call k) ≡ callBy (r ∷ rs) w k
+  unfolding callBy
+  call-found h = rw h
+
+  pub call-further : {x : Form} → sameBytes w (ascii r.word) ≡ false → x ≡ callBy rs w k → x ≡ callBy (r ∷ rs) w k
+  unfolding callBy
+  call-further h e = rw h e
 
 pub ok-line : {x : Line} (f : Fields) (l : Line) → f .ok ≡ true → x ≡ l → x ≡ cond (f .ok) l noForm
 ok-line f l h e = rw h e
@@ -211,6 +244,8 @@ module _ (s : List ℕ) where
   unfolding readLine inBrackets
   line-closes h = simp (ne-eqb (getD s (length s - 1) 0) 41 h, and-false)
 
-  pub line-form : 2 ≤ length s → length s ≤ 1024 → getD s 0 0 ≡ 40 → getD s (length s - 1) 0 ≡ 41 → readForm (take (length s - 1 - 1) (drop 1 s)) ≡ readLine s
+  pub line-form : 2 ≤ length s → length s ≤ 1024 → getD s 0 0 ≡ 40 → getD s (length s - 1) 0 ≡ 41
+      → readForm (take (length s - 1 - 1) (drop 1 s)) ≡ readLine s
   unfolding readLine inBrackets
-  line-form h k a b = simp (le-leb 2 (length s) h, le-leb (length s) 1024 k, eq-eqb (getD s 0 0) 40 a, eq-eqb (getD s (length s - 1) 0) 41 b)
+  line-form h k a b =
+      simp (le-leb 2 (length s) h, le-leb (length s) 1024 k, eq-eqb (getD s 0 0) 40 a, eq-eqb (getD s (length s - 1) 0) 41 b)

@@ -16,12 +16,13 @@ use borrow.Author.Tests.{ne-eqb}
 use Rattle.io.specs.Digits.{digits, glyph}
 use Rattle.vectors.proofs.Laws.Columns.{both-true}
 use Rattle.plant.specs.declared.answer.Answer.{Answer}
-use Rattle.plant.specs.declared.answer.Answer.the-variants.{Received, Fed, Settled, Returned, Released, Refused}
+use Rattle.plant.specs.declared.answer.Answer.the-variants.{Received, Fed, Settled, Returned, Released, Recycled, Refused}
 use Rattle.reading.specs.declared.names.Vector.the-variants.{Sludge}
 use Rattle.reading.specs.Text.{ascii, newline, oneLine}
 use Rattle.reading.specs.Number.{decimal, placesFrom}
 use Rattle.reading.specs.Names.{namesOf}
-use Rattle.writing.specs.Answer.{labelled, columnText, columnsText, fourText, returnedText, releasedText, refusedText, totalsText, AnswerLineLaw, HeldLineLaw}
+use Rattle.writing.specs.Answer.{labelled, columnText, columnsText, fourText, returnedText, releasedText, refusedText}
+use Rattle.writing.specs.Answer.{totalsText, AnswerLineLaw, HeldLineLaw}
 
 abbrev One : List ℕ → Type 0
 One s = oneLine s ≡ true
@@ -49,7 +50,9 @@ glyph-byte d = go (ltb d 10)
 one-digits : (k n : ℕ) → One (digits 10 k n)
 unfolding oneLine
 one-digits zero n = refl
-one-digits (suc k) n = one-append (digits 10 k (n / 10)) (glyph (n % 10) ∷ []) (one-digits k (n / 10)) (one-byte (glyph (n % 10)) (glyph-byte (n % 10)))
+one-digits (suc k) n =
+    let last = n % 10 in
+    one-append (digits 10 k (n / 10)) (glyph last ∷ []) (one-digits k (n / 10)) (one-byte (glyph last) (glyph-byte last))
 
 pub one-decimal : (n : ℕ) → One (decimal n)
 unfolding decimal
@@ -74,12 +77,14 @@ one-column : (name : List ℕ) (n : ℕ) → One name → One (columnText name n
 unfolding columnText oneLine
 one-column name n h =
     one-append (ascii " (") (name ++ (labelled (ascii " ") n ++ ascii ")")) refl
-    (one-append name (labelled (ascii " ") n ++ ascii ")") h (one-append (labelled (ascii " ") n) (ascii ")") (one-labelled (ascii " ") n refl) refl))
+    (one-append name (labelled (ascii " ") n ++ ascii ")") h
+    (one-append (labelled (ascii " ") n) (ascii ")") (one-labelled (ascii " ") n refl) refl))
 
 pub one-columns : (names : List (List ℕ)) (k : ℕ) (v : List ℕ) → allOne names ≡ true → One (columnsText names k v)
 unfolding columnsText oneLine
 one-columns names zero v h = refl
-one-columns names (suc k) v h = one-append (columnsText names k v) _ (one-columns names k v h) (one-column (getD names k []) (getD v k 0) (one-name names k h))
+one-columns names (suc k) v h =
+    one-append (columnsText names k v) _ (one-columns names k v h) (one-column (getD names k []) (getD v k 0) (one-name names k h))
 
 -- ---- answers
 
@@ -88,7 +93,9 @@ one-four : (a b c d : List ℕ) (i j k l : ℕ) → One a → One b → One c �
 unfolding oneLine
 one-four a b c d i j k l p q r s =
     one-append (labelled a i) _ (one-labelled a i p)
-    (one-append (labelled b j) _ (one-labelled b j q) (one-append (labelled c k) _ (one-labelled c k r) (one-append (labelled d l) _ (one-labelled d l s) refl)))
+    (one-append (labelled b j) _ (one-labelled b j q)
+    (one-append (labelled c k) _ (one-labelled c k r)
+    (one-append (labelled d l) _ (one-labelled d l s) refl)))
 
 one-refused : (n : ℕ) → One (refusedText n)
 unfolding refusedText oneLine
@@ -96,7 +103,8 @@ one-refused n = one-append (labelled (ascii "(no ") n) _ (one-labelled (ascii "(
 
 one-returned : (n : ℕ) → One (returnedText n)
 unfolding returnedText oneLine
-one-returned n = one-append (labelled (ascii "(ok return stripped ") n) (ascii ")") (one-labelled (ascii "(ok return stripped ") n refl) refl
+one-returned n =
+    one-append (labelled (ascii "(ok return stripped ") n) (ascii ")") (one-labelled (ascii "(ok return stripped ") n refl) refl
 
 one-released : (v : List ℕ) → One (releasedText v)
 unfolding releasedText oneLine allOne
@@ -107,10 +115,13 @@ one-released v =
 pub one-answer : AnswerLineLaw
 unfolding oneLine fourText
 one-answer Received v = refl
-one-answer (Fed b o n w) v = one-four (ascii "(ok feed burnt ") (ascii " oxygen ") (ascii " nitrate ") (ascii " warn ") (b .0) (o .0) (n .0) w refl refl refl refl
+one-answer (Fed b o n w) v =
+    one-four (ascii "(ok feed burnt ") (ascii " oxygen ") (ascii " nitrate ") (ascii " warn ") (b .0) (o .0) (n .0) w
+    refl refl refl refl
 one-answer Settled v = refl
 one-answer (Returned s) v = one-returned (s .0)
 one-answer Released v = one-released v
+one-answer Recycled v = refl
 one-answer (Refused n) v = one-refused n
 
 pub one-held : HeldLineLaw
@@ -118,5 +129,7 @@ unfolding oneLine fourText
 one-held h = go (eqb (h .refusal) 0)
   where
     go : (t : Bool) → One (cond t (totalsText (h .cod .0) (h .tkn .0) (h .oxygen .0) (h .nitrate .0)) (refusedText (h .refusal)))
-    go true = one-four (ascii "(held cod ") (ascii " tkn ") (ascii " oxygen ") (ascii " nitrate ") (h .cod .0) (h .tkn .0) (h .oxygen .0) (h .nitrate .0) refl refl refl refl
+    go true =
+        one-four (ascii "(held cod ") (ascii " tkn ") (ascii " oxygen ") (ascii " nitrate ")
+        (h .cod .0) (h .tkn .0) (h .oxygen .0) (h .nitrate .0) refl refl refl refl
     go false = one-refused (h .refusal)

@@ -16,12 +16,12 @@ use lib.ListN.{length, take, getD}
 use lib.Seq.{take-suc, take-all}
 use Rattle.vectors.specs.Units.{milligrams, ticks}
 use Rattle.vectors.proofs.Laws.Columns.{both-true}
-use Rattle.plant.specs.declared.answer.Answer.the-variants.{Received, Fed, Settled, Returned, Released, Refused}
-use Rattle.reading.specs.Text.{ascii}
+use Rattle.plant.specs.declared.answer.Answer.the-variants.{Received, Fed, Settled, Returned, Released, Recycled, Refused}
+use Rattle.reading.specs.Text.{ascii, sameBytes, upTo}
 use Rattle.reading.specs.Number.{isDigit, allDigits, valueAfter, decimal}
 use Rattle.reading.specs.Names.{sludgeNames}
 use Rattle.writing.specs.Answer.{labelled, columnText, columnsText, fedText, fourText, returnedText, releasedText, refusedText}
-use Rattle.writing.specs.ReadBack.{noDigits, scan, numbersIn, readAnswer, short, ReadBackLaw, ReadColumnsLaw, SameTextLaw}
+use Rattle.writing.specs.ReadBack.{noDigits, scan, numbersIn, replyBy, readAnswer, short, ReadBackLaw, ReadColumnsLaw, SameTextLaw}
 use Rattle.writing.proofs.Laws.Decimal.{decimal-digits, decimal-value}
 
 -- ---- labels and numbers
@@ -42,7 +42,8 @@ unfolding scan allDigits valueAfter
 scan-digits n [] s h = refl
 scan-digits n (b ∷ x) s h =
     let c = both-true (isDigit b) (allDigits x) h in
-    ap (λ t. cond t (scan true (n * 10 + (b - 48)) (x ++ s)) (n ∷ scan false 0 (x ++ s))) (c .0) ∙ scan-digits (n * 10 + (b - 48)) x s (c .1)
+    ap (λ t. cond t (scan true (n * 10 + (b - 48)) (x ++ s)) (n ∷ scan false 0 (x ++ s))) (c .0)
+    ∙ scan-digits (n * 10 + (b - 48)) x s (c .1)
 
 scan-run : (x s : List ℕ) → 1 ≤ length x → allDigits x ≡ true → scan false 0 (x ++ s) ≡ scan true (valueAfter 0 x) s
 unfolding scan allDigits valueAfter
@@ -63,7 +64,8 @@ scan-number n b s h e =
 
 pub scan-labelled : (l : List ℕ) (n b : ℕ) (s : List ℕ) → noDigits l ≡ true → short n → isDigit b ≡ false
     → numbersIn (labelled l n ++ (b ∷ s)) ≡ n ∷ numbersIn (b ∷ s)
-scan-labelled l n b s p h e = ap numbersIn (append-assoc l (decimal n) (b ∷ s)) ∙ scan-label l (decimal n ++ (b ∷ s)) p ∙ scan-number n b s h e
+scan-labelled l n b s p h e =
+    ap numbersIn (append-assoc l (decimal n) (b ∷ s)) ∙ scan-label l (decimal n ++ (b ∷ s)) p ∙ scan-number n b s h e
 
 -- ---- columns
 
@@ -120,13 +122,17 @@ scan-fed b o n w h i j k =
     ∙ ap (λ (x : List ℕ). b ∷ o ∷ n ∷ x) (scan-end (ascii " warn ") w refl k)
 
 pub answer-read : ReadBackLaw
-unfolding readAnswer fourText returnedText releasedText refusedText noDigits
+unfolding readAnswer replyBy sameBytes upTo columnsText columnText fourText returnedText releasedText refusedText noDigits
 answer-read Received v h = refl
-answer-read (Fed b o n w) v h = ap (λ (ns : List ℕ). Fed (milligrams (getD ns 0 0)) (milligrams (getD ns 1 0)) (ticks (getD ns 2 0)) (getD ns 3 0)) (scan-fed (b .0) (o .0) (n .0) w (h .0) (h .1) (h .2) (h .3))
+answer-read (Fed b o n w) v h =
+    ap (λ (ns : List ℕ). Fed (milligrams (getD ns 0 0)) (milligrams (getD ns 1 0)) (ticks (getD ns 2 0)) (getD ns 3 0))
+    (scan-fed (b .0) (o .0) (n .0) w (h .1) (h .2) (h .3) (h .4))
 answer-read Settled v h = refl
-answer-read (Returned s) v h = ap (λ (ns : List ℕ). Returned (milligrams (getD ns 0 0))) (scan-end (ascii "(ok return stripped ") (s .0) refl h)
+answer-read (Returned s) v h =
+    ap (λ (ns : List ℕ). Returned (milligrams (getD ns 0 0))) (scan-end (ascii "(ok return stripped ") (s .0) refl (h .5))
 answer-read Released v h = refl
-answer-read (Refused n) v h = ap (λ (ns : List ℕ). Refused (getD ns 0 0)) (scan-end (ascii "(no ") n refl h)
+answer-read Recycled v h = refl
+answer-read (Refused n) v h = ap (λ (ns : List ℕ). Refused (getD ns 0 0)) (scan-end (ascii "(no ") n refl (h .0))
 
 -- answers that are written alike are the same
 pub answer-same : SameTextLaw

@@ -4,6 +4,7 @@
 use crate::guarded::{byte_pattern, number_pattern, Guarded};
 use crate::tally::{kind_of, refusal_of, Tally};
 use crate::{numbers, shown, Difference, Options};
+use second::balances::Balances;
 use second::plant::Plant;
 use second::random::Random;
 use second::trials::Trial;
@@ -16,6 +17,30 @@ const SHORT: [usize; 3] = [0, 1, 511];
 /// The record between its guards, as the library takes it.
 fn guarded_record(plant: &Plant, salt: u64) -> Guarded<u64> {
     Guarded::new(&plant.columns(), number_pattern(salt))
+}
+
+/// A record, with the balances of the calls on it so far.
+pub struct List {
+    pub plant: Plant,
+    pub balances: Balances,
+}
+
+impl List {
+    /// No calls yet on this record. Of one above a ceiling nothing is told, and it takes no call.
+    fn on(plant: Plant) -> List {
+        let balances =
+            plant.held().map_or(Balances::default(), |held| Balances::on(held.numbers()));
+        List { plant, balances }
+    }
+
+    /// Asks that the balances close over what the record holds now.
+    fn check(&self) -> Result<(), Difference> {
+        match self.plant.held() {
+            Ok(held) => self.balances.check(held.numbers()),
+            Err(_) if self.balances == Balances::default() => Ok(()),
+            Err(_) => Err(format!("calls led above a ceiling: {:?}", self.plant.columns())),
+        }
+    }
 }
 
 /// What a call with a lent buffer is made on.
@@ -58,10 +83,10 @@ impl Setting {
     }
 }
 
-/// Answers one line by both, on the same record, and compares everything.
+/// Answers one line by both, on the list's record, and compares everything.
 fn line(
     random: &mut Random,
-    plant: &mut Plant,
+    List { plant, balances }: &mut List,
     line: &[u8],
     tally: &mut Tally,
 ) -> Result<(), Difference> {
@@ -72,6 +97,7 @@ fn line(
     let mut buffer = setting.buffer();
     let answer = lines::answer(plant, line, buffer.inner()).to_vec();
     tally.add(kind_of(line), refusal_of(&answer));
+    balances.count_line(line, &answer);
     let compared = setting.compare((plant, &buffer, answer.len()), (&record, &lent, told));
     let line_as_it_was = Guarded::new(line, byte_pattern(setting.salt));
     compared.and_then(|()| line_as_it_was.compare("line", &read)).map_err(|difference| {
@@ -92,24 +118,26 @@ fn held(random: &mut Random, plant: &Plant, tally: &mut Tally) -> Result<(), Dif
     compared.map_err(|difference| setting.explain("held", difference))
 }
 
-/// Runs one list of calls through the library, on records that are now and then put anew.
+/// Runs one list of calls through the library, on records that are now and then put anew, with
+/// the balances of the calls on each.
 fn one_list(random: Random, tally: &mut Tally) -> Result<(), Difference> {
     let mut trial = Trial::new(random);
-    let mut plant = trial.record();
+    let mut list = List::on(trial.record());
     for _ in 0..1 + trial.random.below(800) {
         if trial.random.percent(8) {
-            plant = trial.record();
+            list.check()?;
+            list = List::on(trial.record());
         }
         match trial.random.below(20) {
-            0 => held(&mut trial.random, &plant, tally)?,
-            1..=11 => numbers::one_call(&mut trial, &mut plant, tally)?,
+            0 => held(&mut trial.random, &list.plant, tally)?,
+            1..=11 => numbers::one_call(&mut trial, &mut list, tally)?,
             _ => {
-                let next = trial.line(&plant);
-                line(&mut trial.random, &mut plant, &next, tally)?;
+                let next = trial.line(&list.plant);
+                line(&mut trial.random, &mut list, &next, tally)?;
             }
         }
     }
-    Ok(())
+    list.check()
 }
 
 /// Runs as many lists of calls through the library as there are sessions.

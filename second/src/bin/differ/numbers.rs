@@ -4,6 +4,7 @@
 //! every number of every area has to be the same afterwards.
 
 use crate::guarded::{number_pattern, Guarded};
+use crate::library::List;
 use crate::tally::Tally;
 use crate::Difference;
 use second::closing::Gap;
@@ -50,6 +51,7 @@ const FEED: ByNumbers = by_numbers!(jilghvani_feed, feed, record, number, told4)
 const SETTLE: ByNumbers = by_numbers!(jilghvani_settle, settle, record, number, d);
 const RETURN: ByNumbers = by_numbers!(jilghvani_return, give_back, record, number, told1);
 const RELEASE: ByNumbers = by_numbers!(jilghvani_release, release, record, number, v);
+const RECYCLE: ByNumbers = by_numbers!(jilghvani_recycle, recycle, record, number);
 const TOTALS: ByNumbers = by_numbers!(jilghvani_totals, totals, record, told4);
 const ASM_TO_ADM: ByNumbers = by_numbers!(jilghvani_asm_to_adm, asm_to_adm, v, d, told4);
 const ADM_TO_ASM: ByNumbers = by_numbers!(jilghvani_adm_to_asm, adm_to_asm, d, v, told1);
@@ -148,18 +150,33 @@ fn by_both(
     }
 }
 
-/// Makes a call on the record, which goes on as it is then.
-fn on_record(trial: &mut Trial, plant: &mut Plant, tally: &mut Tally) -> Result<(), Difference> {
-    let on = Input::on(plant);
-    let (call, input) = match trial.call(plant) {
+/// What a call told or handed out, in the area that it is lent for that.
+fn told<'a>(call: &Call, after: &'a Lent) -> &'a [u64] {
+    match call {
+        Call::Feed(_) => after.told4,
+        Call::Return(_) => after.told1,
+        Call::Release(_) => after.v,
+        Call::Receive(_) | Call::Settle(..) | Call::Recycle(_) => &[],
+    }
+}
+
+/// Makes a call on the list's record, which goes on as it is then.
+fn on_record(trial: &mut Trial, list: &mut List, tally: &mut Tally) -> Result<(), Difference> {
+    let (on, call) = (Input::on(&list.plant), trial.call(&list.plant));
+    let (by_numbers, input) = match call {
         Call::Receive(v) => (RECEIVE, Input { v, ..on }),
         Call::Feed(k) => (FEED, Input { number: k, ..on }),
         Call::Settle(gas, d) => (SETTLE, Input { number: gas, d, ..on }),
         Call::Return(k) => (RETURN, Input { number: k, ..on }),
         Call::Release(k) => (RELEASE, Input { number: k, ..on }),
+        Call::Recycle(k) => (RECYCLE, Input { number: k, ..on }),
     };
-    let (_, mut after) = by_both(call, &input, trial.random.any(), tally)?;
-    *plant = Plant::from_columns(after.lend(0).record);
+    let (refusal, mut after) = by_both(by_numbers, &input, trial.random.any(), tally)?;
+    let after = after.lend(0);
+    list.plant = Plant::from_columns(after.record);
+    if refusal == 0 {
+        list.balances.count(&call, told(&call, &after));
+    }
     Ok(())
 }
 
@@ -195,9 +212,10 @@ fn closing(trial: &mut Trial, plant: &Plant, tally: &mut Tally) -> Result<(), Di
 }
 
 /// Makes one call by numbers, or several that belong together, by both and compares everything.
-pub fn one_call(trial: &mut Trial, plant: &mut Plant, tally: &mut Tally) -> Result<(), Difference> {
+pub fn one_call(trial: &mut Trial, list: &mut List, tally: &mut Tally) -> Result<(), Difference> {
+    let plant = &list.plant;
     let (call, input) = match trial.random.below(100) {
-        0..=59 => return on_record(trial, plant, tally),
+        0..=59 => return on_record(trial, list, tally),
         60..=79 => return closing(trial, plant, tally),
         80..=87 => (ASM_TO_ADM, Input { v: trial.asm1(plant), ..Input::on(plant) }),
         88..=94 => (ADM_TO_ASM, Input { d: trial.digester(plant), ..Input::on(plant) }),

@@ -2,6 +2,7 @@
 
 use crate::tally::{kind_of, refusal_of, Tally};
 use crate::{shown, Difference, Options};
+use second::balances::{numbers_in, Balances};
 use second::plant::Plant;
 use second::random::Random;
 use second::trials::Trial;
@@ -101,6 +102,17 @@ impl Session {
             tally.add(kind_of(line), refusal_of(answer));
         }
         tally.add("held", 0);
+    }
+
+    /// Asks that the balances of its lines and answers close over its held line.
+    fn check_balances(&self) -> Result<(), Difference> {
+        let mut balances = Balances::default();
+        for (line, answer) in self.lines.iter().zip(&self.answers) {
+            balances.count_line(line, answer);
+        }
+        let held = self.answers.last().map_or(Vec::new(), |held| numbers_in(held));
+        let held = held.try_into().map_err(|held| format!("the held line has {held:?}"))?;
+        balances.check(held)
     }
 
     /// Compares what came out with what is to be printed, and shows the first line that differs.
@@ -290,6 +302,7 @@ pub fn run(options: &Options, tally: &mut Tally) -> Result<(), Difference> {
         let mut random = Random::nth(options.seed, 2 * number);
         let session = make_session(random.clone());
         let result = check_own(&session, &mut random)
+            .and_then(|()| session.check_balances())
             .and_then(|()| one_session(&options.program, &session, &mut random));
         if let Err(difference) = result {
             let path = concat!(env!("CARGO_MANIFEST_DIR"), "/target/differ.session");

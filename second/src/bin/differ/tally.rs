@@ -6,12 +6,13 @@ use std::ops::RangeInclusive;
 
 /// The kinds of answers: lines by the call they ask, the held line, and the functions that are
 /// called by numbers; a gap that is told stands by where it is.
-const KINDS: [&str; 22] = [
+const KINDS: [&str; 24] = [
     "receive",
     "feed",
     "settle",
     "return",
     "release",
+    "recycle",
     "no form",
     "held",
     "jilghvani_fresh",
@@ -20,6 +21,7 @@ const KINDS: [&str; 22] = [
     "jilghvani_settle",
     "jilghvani_return",
     "jilghvani_release",
+    "jilghvani_recycle",
     "jilghvani_totals",
     "jilghvani_asm_to_adm",
     "jilghvani_adm_to_asm",
@@ -39,6 +41,7 @@ pub fn kind_of(line: &[u8]) -> &'static str {
         Some(Call::Settle(..)) => "settle",
         Some(Call::Return(_)) => "return",
         Some(Call::Release(_)) => "release",
+        Some(Call::Recycle(_)) => "recycle",
         None => "no form",
     }
 }

@@ -29,11 +29,17 @@ enum-told-3 c = search needs
 nothing-but-requires-3 : tie.Need-nothing-but-requires-3
 nothing-but-requires-3 c κs = search needs
 
-enum-known-a-3 : tie.Need-enum-known-a-3
-enum-known-a-3 c = search needs
+enum-told-4 : tie.Need-enum-told-4
+enum-told-4 c = search needs
 
 nothing-but-requires-4 : tie.Need-nothing-but-requires-4
 nothing-but-requires-4 c κs = search needs
+
+enum-known-a-3 : tie.Need-enum-known-a-3
+enum-known-a-3 c = search needs
+
+nothing-but-requires-5 : tie.Need-nothing-but-requires-5
+nothing-but-requires-5 c κs = search needs
 
 returns : tie.Need-returns
 returns c = c .nothing-but .ensures ∙ sym (ap told (c .before .enum-told .given .1))
@@ -51,7 +57,10 @@ returns-5 : tie.Need-returns-5
 returns-5 c = c .nothing-but3 .ensures ∙ sym (ap told (c .before .enum-told3 .given .1))
 
 returns-6 : tie.Need-returns-6
-returns-6 c = c .nothing-but4 .ensures ∙ sym (ap told (c .before .before .a3 .given .1))
+returns-6 c = c .nothing-but4 .ensures ∙ sym (ap told (c .before .enum-told4 .given .1))
+
+returns-7 : tie.Need-returns-7
+returns-7 c = c .nothing-but5 .ensures ∙ sym (ap told (c .before .before .a3 .given .1))
 
 pub told-of-spec : {M : Type 1} → statement M
 told-of-spec =
@@ -65,11 +74,14 @@ told-of-spec =
     enum-known-a-2
     enum-told-3
     nothing-but-requires-3
-    enum-known-a-3
+    enum-told-4
     nothing-but-requires-4
+    enum-known-a-3
+    nothing-but-requires-5
     returns
     returns-2
     returns-3
     returns-4
     returns-5
-    returns-6)
+    returns-6
+    returns-7)

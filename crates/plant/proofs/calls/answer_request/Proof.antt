@@ -42,6 +42,12 @@ enum-known-call-4 c = search needs
 release-requires : tie.Need-release-requires
 release-requires c κs = search needs
 
+enum-known-call-5 : tie.Need-enum-known-call-5
+enum-known-call-5 c = search needs
+
+recycle-requires : tie.Need-recycle-requires
+recycle-requires c κs = search needs
+
 -- each arm's outcome is that of the request whose call it is
 by-call : (p : Plant) (r : Request) (w : Call) {o : Outcome} → r .call ≡ w → o ≡ stepBy house p w (r .sludge) (r .digester)
     → (o ≡ step house p r) × (told (o .answer) ≡ toldOf house p r)
@@ -62,6 +68,9 @@ returns-4 c = by-call _ _ _ (c .before .before .call3 .given .1) (c .give-back .
 returns-5 : tie.Need-returns-5
 returns-5 c = by-call _ _ _ (c .before .before .call4 .given .1) (c .release .ensures .0)
 
+returns-6 : tie.Need-returns-6
+returns-6 c = by-call _ _ _ (c .before .before .call5 .given .1) (c .recycle .ensures .0)
+
 pub answer-request-spec : {M : Type 1} → statement M
 answer-request-spec =
     tie.close
@@ -76,8 +85,11 @@ answer-request-spec =
     give-back-requires
     enum-known-call-4
     release-requires
+    enum-known-call-5
+    recycle-requires
     returns
     returns-2
     returns-3
     returns-4
-    returns-5)
+    returns-5
+    returns-6)

@@ -22,7 +22,10 @@ no-form-requires c κs = search needs
 
 returns : tie.Need-returns
 returns c =
-    c .bare-line .ensures ∙ ap bare (c .before .call-of .ensures) ∙ ap (numberLine (c .before .before .before .before .before .args .w)) (sym (c .before .before .before .n .given .1))
+    let at-value = c .before .before .before in
+    c .bare-line .ensures
+    ∙ ap bare (c .before .call-of .ensures)
+    ∙ ap (numberLine (at-value .before .before .before .args .w .now)) (sym (at-value .n .given .1))
 
 returns-2 : tie.Need-returns-2
 returns-2 c = search needs

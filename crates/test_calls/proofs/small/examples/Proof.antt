@@ -5,10 +5,10 @@ use Rattle.test_calls.proofs.small.examples.Statement.{statement}
 use Rattle.test_calls.proofs.small.examples.Tie as tie
 
 abbrev Inv-loop : tie.InvT-loop
-Inv-loop i₀ i = i ≤ 65
+Inv-loop i₀ i = i ≤ 85
 
 abbrev μ-loop : tie.MeasureT-loop
-μ-loop i₀ i = 65 - i
+μ-loop i₀ i = 85 - i
 
 loop-holds : tie.Need-loop-holds Inv-loop μ-loop
 loop-holds c = search needs
