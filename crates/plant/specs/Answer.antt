@@ -11,7 +11,7 @@ use Prim.Native.Nat.{ℕ}
 use lib.Dec.{eqb}
 use Rattle.plant.specs.declared.record.Plant.{Plant}
 use Rattle.plant.specs.declared.answer.Answer.{Answer}
-use Rattle.plant.specs.declared.answer.Answer.the-variants.{Received, Fed, Settled, Returned, Released, Recycled, Refused}
+use Rattle.plant.specs.declared.answer.Answer.the-variants.{Refused, Received, Fed, Settled, Returned, Released, Recycled}
 use Rattle.plant.specs.declared.answer.Outcome.{Outcome}
 use Rattle.plant.specs.declared.answer.Told.{Told}
 use Rattle.plant.specs.Record.{noColumns}
@@ -20,13 +20,13 @@ abbrev pub nothing : ℕ → Told
 nothing n = record { number = n; burnt = 0; oxygen = 0; nitrate = 0; warn = 0; stripped = 0 }
 
 abbrev pub told : Answer → Told
+told (Refused n) = nothing n
 told Received = nothing 0
 told (Fed b o n w) = record { number = 0; burnt = b .0; oxygen = o .0; nitrate = n .0; warn = w; stripped = 0 }
 told Settled = nothing 0
 told (Returned s) = record { number = 0; burnt = 0; oxygen = 0; nitrate = 0; warn = 0; stripped = s .0 }
 told Released = nothing 0
 told Recycled = nothing 0
-told (Refused n) = nothing n
 
 abbrev pub refused : Plant → ℕ → Outcome
 refused p n = record { answer = Refused n; vector = noColumns; plant = p }

@@ -10,6 +10,8 @@
 --   gas                                     the gas COD handed to accepted settles
 --   stripped                                what accepted returns tell
 --   codIn, tknIn, oxygenIn, nitrateIn       what is in the tanks
+--   RecycleLaw                              a recycle, refused or not, leaves what is in the three tanks together as it was.
+--                                           proofs/Laws/Balance.antt proves it: recycle-holds
 --   Balanced, BalanceLaw                    the four balances, for every list of calls and every permitted set of figures.
 --                                           proofs/Laws/Balance.antt proves it: balance
 --
@@ -31,7 +33,7 @@ use Rattle.plant.specs.declared.answer.Request.{Request}
 use Rattle.plant.specs.declared.answer.Outcome.{Outcome}
 use Rattle.plant.specs.Record.{freshPlant}
 use Rattle.plant.specs.Answer.{told}
-use Rattle.plant.specs.Calls.{step}
+use Rattle.plant.specs.Calls.{step, recycling}
 
 -- ---- a list of calls
 
@@ -128,3 +130,13 @@ pub record Balanced (f : Figures) (rs : List Request) : Type 0 where
 
 abbrev pub BalanceLaw : Type 0
 BalanceLaw = (f : Figures) → Permitted f → (rs : List Request) → Balanced f rs
+
+-- document 02, E1: recycling adds no term
+pub record SameHeld (f : Figures) (p q : Plant) : Type 0 where
+  pub cod : codIn p ≡ codIn q
+  pub tkn : tknIn f p ≡ tknIn f q
+  pub oxygen : oxygenIn p ≡ oxygenIn q
+  pub nitrate : nitrateIn p ≡ nitrateIn q
+
+abbrev pub RecycleLaw : Type 0
+RecycleLaw = (f : Figures) → Permitted f → (p : Plant) (k : ℕ) → SameHeld f p (step f p (recycling k) .plant)

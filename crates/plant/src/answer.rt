@@ -22,8 +22,9 @@ pub struct Request {
     pub digester: [u64; 26],
 }
 
-// What a call answers: the numbers that it tells, or a refusal with its number.
+// What a call answers: a refusal with its number, or the numbers that it tells.
 pub enum Answer {
+    Refused(u64),
     Received,
     Fed {
         burnt: Milligrams,
@@ -37,7 +38,6 @@ pub enum Answer {
     },
     Released,
     Recycled,
-    Refused(u64),
 }
 
 // The answer, the vector that a release hands out, which is zero otherwise, and the new record.
@@ -73,6 +73,7 @@ pub fn told_of(a: Answer) -> Told
     ensures { λ r. ⌜ r ≡ told a ⌝ }
 {
     match a {
+        Answer::Refused(n) => nothing_but(n),
         Answer::Received => nothing_but(0),
         Answer::Fed {
             burnt,
@@ -98,7 +99,6 @@ pub fn told_of(a: Answer) -> Told
         },
         Answer::Released => nothing_but(0),
         Answer::Recycled => nothing_but(0),
-        Answer::Refused(n) => nothing_but(n),
     }
 }
 

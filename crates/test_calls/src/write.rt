@@ -22,6 +22,7 @@ pub fn answer(o: Outcome) {
     let a = o.answer;
     let after = o.plant;
     match a {
+        Answer::Refused(n) => test_show::number(b"no ", n),
         Answer::Received => test_show::text(b"ok receive"),
         Answer::Fed {
             burnt,
@@ -33,7 +34,6 @@ pub fn answer(o: Outcome) {
         Answer::Returned { stripped } => test_show::number(b"ok return stripped ", stripped.0),
         Answer::Released => test_show::text(b"ok release"),
         Answer::Recycled => recycled(after),
-        Answer::Refused(n) => test_show::number(b"no ", n),
     }
     let v = o.vector;
     test_show::asm1(v);

@@ -13,7 +13,7 @@ use Prim.Native.Nat.{ℕ, zero, suc}
 use lib.Dec.{ltb, eqb}
 use lib.ListN.{getD}
 use Rattle.plant.specs.declared.answer.Answer.{Answer}
-use Rattle.plant.specs.declared.answer.Answer.the-variants.{Received, Fed, Settled, Returned, Released, Recycled, Refused}
+use Rattle.plant.specs.declared.answer.Answer.the-variants.{Refused, Received, Fed, Settled, Returned, Released, Recycled}
 use Rattle.plant.specs.declared.holding.HeldTotals.{HeldTotals}
 use Rattle.reading.specs.declared.names.Vector.the-variants.{Sludge}
 use Rattle.reading.specs.Text.{ascii, oneLine}
@@ -50,13 +50,13 @@ unfoldable pub refusedText : ℕ → List ℕ
 refusedText n = labelled (ascii "(no ") n ++ ascii ")"
 
 abbrev pub answerText : Answer → List ℕ → List ℕ
+answerText (Refused n) v = refusedText n
 answerText Received v = ascii "(ok receive)"
 answerText (Fed b o n w) v = fedText (b .0) (o .0) (n .0) w
 answerText Settled v = ascii "(ok settle)"
 answerText (Returned s) v = returnedText (s .0)
 answerText Released v = releasedText v
 answerText Recycled v = ascii "(ok recycle)"
-answerText (Refused n) v = refusedText n
 
 abbrev pub totalsText : ℕ → ℕ → ℕ → ℕ → List ℕ
 totalsText cod tkn oxygen nitrate =

@@ -17,7 +17,7 @@ use Prim.Native.String.{String}
 use lib.ListN.{length, drop, getD}
 use Rattle.vectors.specs.Units.{milligrams, ticks}
 use Rattle.plant.specs.declared.answer.Answer.{Answer}
-use Rattle.plant.specs.declared.answer.Answer.the-variants.{Received, Fed, Settled, Returned, Released, Recycled, Refused}
+use Rattle.plant.specs.declared.answer.Answer.the-variants.{Refused, Received, Fed, Settled, Returned, Released, Recycled}
 use Rattle.plant.specs.declared.answer.Told.{Told}
 use Rattle.plant.specs.Answer.{told}
 use Rattle.reading.specs.Text.{ascii, sameBytes, upTo, space, closing}

@@ -21,6 +21,7 @@ pub fn write_answer(buf: &mut [u8], a: Answer, v: [u64; 13]) -> usize
         return 0;
     }
     match a {
+        Answer::Refused(n) => write_refused(buf, n),
         Answer::Received => write_word(buf, b"(ok receive)"),
         Answer::Fed {
             burnt,
@@ -32,7 +33,6 @@ pub fn write_answer(buf: &mut [u8], a: Answer, v: [u64; 13]) -> usize
         Answer::Returned { stripped } => write_returned(buf, stripped.0),
         Answer::Released => write_released(buf, v),
         Answer::Recycled => write_word(buf, b"(ok recycle)"),
-        Answer::Refused(n) => write_refused(buf, n),
     }
 }
 

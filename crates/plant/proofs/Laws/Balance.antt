@@ -7,6 +7,7 @@
 --   over          so does every list of calls
 --   cod-quantity, ..   the four quantities
 --   balance       BalanceLaw
+--   recycle-holds RecycleLaw
 use mathlib.Core.Bool.{cond}
 use mathlib.Core.List.{List, [], _∷_}
 use mathlib.Core.Path.{_≡_, refl}
@@ -32,10 +33,10 @@ use Rattle.plant.specs.declared.answer.Call.the-variants as call
 use Rattle.plant.specs.declared.answer.Request.{Request}
 use Rattle.plant.specs.declared.answer.Outcome.{Outcome}
 use Rattle.plant.specs.declared.answer.Told.{Told}
-use Rattle.plant.specs.Record.{freshPlant, thousandths}
+use Rattle.plant.specs.Record.{noColumns, freshPlant, thousandths}
 use Rattle.plant.specs.Answer.{nothing, told, refused, unless, first}
-use Rattle.plant.specs.Calls.{receive, feed, settle, giveBack, release, recycle, ruleBy, stepBy, step}
-use Rattle.plant.specs.Balance.{after, sumOver, counts, ifAccepted, receivedBy, releasedBy, gasBy, BalanceLaw}
+use Rattle.plant.specs.Calls.{receive, feed, settle, giveBack, release, recycle, ruleBy, stepBy, step, recycling}
+use Rattle.plant.specs.Balance.{after, sumOver, counts, ifAccepted, receivedBy, releasedBy, gasBy, BalanceLaw, RecycleLaw}
 use Rattle.plant.proofs.Laws.Record.{thousandths-le}
 use Rattle.plant.proofs.Laws.Calls.{settle-passed}
 use Rattle.plant.proofs.Laws.Decision.{decide-case, first-passed, unless-passed}
@@ -100,6 +101,13 @@ module _ (f : Figures) (q : Quantity f) where
 
   step-kept : (p : Plant) (c : Call) (v d : List ℕ) → Kept p c v (stepBy f p c v d)
   step-kept p c v d = decide-case (Kept p c v) p _ _ (done-kept p c v d) (refused-kept p c v _)
+
+  recycle-kept : (p : Plant) (k : ℕ) → inTanks p ≡ inTanks (step f p (recycling k) .plant)
+  unfolding recycle
+  recycle-kept p k =
+      decide-case (λ o. inTanks p ≡ inTanks (o .plant)) p _ _
+      (λ e. omega (arith, done-kept p (call.Recycle k) noColumns noColumns e, q .silent 0))
+      (λ n. refl)
 
   -- ---- a list of calls
 
@@ -202,4 +210,14 @@ balance f h rs =
       tkn = omega (arith, from-fresh f (tkn-quantity f h) rs, no-sum f freshPlant rs);
       oxygen = from-fresh f (oxygen-quantity f h) rs;
       nitrate = from-fresh f (nitrate-quantity f h) rs;
+    }
+
+pub recycle-holds : RecycleLaw
+unfolding cod-quantity tkn-quantity oxygen-quantity nitrate-quantity
+recycle-holds f h p k =
+    record {
+      cod = recycle-kept f (cod-quantity f h) p k;
+      tkn = recycle-kept f (tkn-quantity f h) p k;
+      oxygen = recycle-kept f (oxygen-quantity f h) p k;
+      nitrate = recycle-kept f (nitrate-quantity f h) p k;
     }

@@ -16,7 +16,7 @@ use borrow.Author.Tests.{ne-eqb}
 use Rattle.io.specs.Digits.{digits, glyph}
 use Rattle.vectors.proofs.Laws.Columns.{both-true}
 use Rattle.plant.specs.declared.answer.Answer.{Answer}
-use Rattle.plant.specs.declared.answer.Answer.the-variants.{Received, Fed, Settled, Returned, Released, Recycled, Refused}
+use Rattle.plant.specs.declared.answer.Answer.the-variants.{Refused, Received, Fed, Settled, Returned, Released, Recycled}
 use Rattle.reading.specs.declared.names.Vector.the-variants.{Sludge}
 use Rattle.reading.specs.Text.{ascii, newline, oneLine}
 use Rattle.reading.specs.Number.{decimal, placesFrom}
@@ -114,6 +114,7 @@ one-released v =
 
 pub one-answer : AnswerLineLaw
 unfolding oneLine fourText
+one-answer (Refused n) v = one-refused n
 one-answer Received v = refl
 one-answer (Fed b o n w) v =
     one-four (ascii "(ok feed burnt ") (ascii " oxygen ") (ascii " nitrate ") (ascii " warn ") (b .0) (o .0) (n .0) w
@@ -122,7 +123,6 @@ one-answer Settled v = refl
 one-answer (Returned s) v = one-returned (s .0)
 one-answer Released v = one-released v
 one-answer Recycled v = refl
-one-answer (Refused n) v = one-refused n
 
 pub one-held : HeldLineLaw
 unfolding oneLine fourText

@@ -16,7 +16,7 @@ use lib.ListN.{length, take, getD}
 use lib.Seq.{take-suc, take-all}
 use Rattle.vectors.specs.Units.{milligrams, ticks}
 use Rattle.vectors.proofs.Laws.Columns.{both-true}
-use Rattle.plant.specs.declared.answer.Answer.the-variants.{Received, Fed, Settled, Returned, Released, Recycled, Refused}
+use Rattle.plant.specs.declared.answer.Answer.the-variants.{Refused, Received, Fed, Settled, Returned, Released, Recycled}
 use Rattle.reading.specs.Text.{ascii, sameBytes, upTo}
 use Rattle.reading.specs.Number.{isDigit, allDigits, valueAfter, decimal}
 use Rattle.reading.specs.Names.{sludgeNames}
@@ -123,6 +123,7 @@ scan-fed b o n w h i j k =
 
 pub answer-read : ReadBackLaw
 unfolding readAnswer replyBy sameBytes upTo columnsText columnText fourText returnedText releasedText refusedText noDigits
+answer-read (Refused n) v h = ap (λ (ns : List ℕ). Refused (getD ns 0 0)) (scan-end (ascii "(no ") n refl (h .0))
 answer-read Received v h = refl
 answer-read (Fed b o n w) v h =
     ap (λ (ns : List ℕ). Fed (milligrams (getD ns 0 0)) (milligrams (getD ns 1 0)) (ticks (getD ns 2 0)) (getD ns 3 0))
@@ -132,7 +133,6 @@ answer-read (Returned s) v h =
     ap (λ (ns : List ℕ). Returned (milligrams (getD ns 0 0))) (scan-end (ascii "(ok return stripped ") (s .0) refl (h .5))
 answer-read Released v h = refl
 answer-read Recycled v h = refl
-answer-read (Refused n) v h = ap (λ (ns : List ℕ). Refused (getD ns 0 0)) (scan-end (ascii "(no ") n refl (h .0))
 
 -- answers that are written alike are the same
 pub answer-same : SameTextLaw

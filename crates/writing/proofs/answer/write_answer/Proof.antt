@@ -7,6 +7,12 @@ use Rattle.writing.proofs.answer.write_answer.Tie as tie
 returns : tie.Need-returns
 returns c = too-short _ _ (c .if1 .taken)
 
+enum-known-a : tie.Need-enum-known-a
+enum-known-a c = search needs
+
+write-refused-requires : tie.Need-write-refused-requires
+write-refused-requires c κs = search needs
+
 enum-told : tie.Need-enum-told
 enum-told c = search needs
 
@@ -16,8 +22,8 @@ slice-aggregate-write-word c = search needs
 write-word-requires : tie.Need-write-word-requires
 write-word-requires c κs = search needs
 
-enum-known-a : tie.Need-enum-known-a
-enum-known-a c = search needs
+enum-known-a-2 : tie.Need-enum-known-a-2
+enum-known-a-2 c = search needs
 
 write-fed-requires : tie.Need-write-fed-requires
 write-fed-requires c κs = search needs
@@ -31,8 +37,8 @@ slice-aggregate-write-word-2 c = search needs
 write-word-requires-2 : tie.Need-write-word-requires-2
 write-word-requires-2 c κs = search needs
 
-enum-known-a-2 : tie.Need-enum-known-a-2
-enum-known-a-2 c = search needs
+enum-known-a-3 : tie.Need-enum-known-a-3
+enum-known-a-3 c = search needs
 
 write-returned-requires : tie.Need-write-returned-requires
 write-returned-requires c κs = search needs
@@ -52,12 +58,6 @@ slice-aggregate-write-word-3 c = search needs
 write-word-requires-3 : tie.Need-write-word-requires-3
 write-word-requires-3 c κs = search needs
 
-enum-known-a-3 : tie.Need-enum-known-a-3
-enum-known-a-3 c = search needs
-
-write-refused-requires : tie.Need-write-refused-requires
-write-refused-requires c κs = search needs
-
 same-length : tie.Need-same-length
 same-length c = search needs
 
@@ -66,7 +66,7 @@ returns-2 c =
     let at-write = c .before .before in
     let at-kind = at-write .before .before .before in
     let at-room = at-kind .before .before in
-    replied (at-room .before .before .args .v) (at-kind .enum-told .given .1) (at-room .if1 .left) (at-write .write-word .ensures)
+    replied (at-room .before .before .args .v) (at-kind .a .given .1) (at-room .if1 .left) (at-write .write-refused .ensures)
 
 same-length-2 : tie.Need-same-length-2
 same-length-2 c = search needs
@@ -76,7 +76,7 @@ returns-3 c =
     let at-write = c .before .before in
     let at-kind = at-write .before .before .before in
     let at-room = at-kind .before .before in
-    replied (at-room .before .before .args .v) (at-kind .a .given .1) (at-room .if1 .left) (at-write .write-fed .ensures)
+    replied (at-room .before .before .args .v) (at-kind .enum-told .given .1) (at-room .if1 .left) (at-write .write-word .ensures)
 
 same-length-3 : tie.Need-same-length-3
 same-length-3 c = search needs
@@ -86,7 +86,7 @@ returns-4 c =
     let at-write = c .before .before in
     let at-kind = at-write .before .before .before in
     let at-room = at-kind .before .before in
-    replied (at-room .before .before .args .v) (at-kind .enum-told2 .given .1) (at-room .if1 .left) (at-write .write-word2 .ensures)
+    replied (at-room .before .before .args .v) (at-kind .a2 .given .1) (at-room .if1 .left) (at-write .write-fed .ensures)
 
 same-length-4 : tie.Need-same-length-4
 same-length-4 c = search needs
@@ -96,7 +96,7 @@ returns-5 c =
     let at-write = c .before .before in
     let at-kind = at-write .before .before .before in
     let at-room = at-kind .before .before in
-    replied (at-room .before .before .args .v) (at-kind .a2 .given .1) (at-room .if1 .left) (at-write .write-returned .ensures)
+    replied (at-room .before .before .args .v) (at-kind .enum-told2 .given .1) (at-room .if1 .left) (at-write .write-word2 .ensures)
 
 same-length-5 : tie.Need-same-length-5
 same-length-5 c = search needs
@@ -104,9 +104,9 @@ same-length-5 c = search needs
 returns-6 : tie.Need-returns-6
 returns-6 c =
     let at-write = c .before .before in
-    let at-kind = at-write .before .before in
+    let at-kind = at-write .before .before .before in
     let at-room = at-kind .before .before in
-    replied (at-room .before .before .args .v) (at-kind .enum-told3 .given .1) (at-room .if1 .left) (at-write .write-released .ensures)
+    replied (at-room .before .before .args .v) (at-kind .a3 .given .1) (at-room .if1 .left) (at-write .write-returned .ensures)
 
 same-length-6 : tie.Need-same-length-6
 same-length-6 c = search needs
@@ -114,9 +114,9 @@ same-length-6 c = search needs
 returns-7 : tie.Need-returns-7
 returns-7 c =
     let at-write = c .before .before in
-    let at-kind = at-write .before .before .before in
+    let at-kind = at-write .before .before in
     let at-room = at-kind .before .before in
-    replied (at-room .before .before .args .v) (at-kind .enum-told4 .given .1) (at-room .if1 .left) (at-write .write-word3 .ensures)
+    replied (at-room .before .before .args .v) (at-kind .enum-told3 .given .1) (at-room .if1 .left) (at-write .write-released .ensures)
 
 same-length-7 : tie.Need-same-length-7
 same-length-7 c = search needs
@@ -126,30 +126,30 @@ returns-8 c =
     let at-write = c .before .before in
     let at-kind = at-write .before .before .before in
     let at-room = at-kind .before .before in
-    replied (at-room .before .before .args .v) (at-kind .a3 .given .1) (at-room .if1 .left) (at-write .write-refused .ensures)
+    replied (at-room .before .before .args .v) (at-kind .enum-told4 .given .1) (at-room .if1 .left) (at-write .write-word3 .ensures)
 
 pub write-answer-spec : {M : Type 1} → statement M
 write-answer-spec =
     tie.close
     (tie.spec
     returns
+    enum-known-a
+    write-refused-requires
     enum-told
     slice-aggregate-write-word
     write-word-requires
-    enum-known-a
+    enum-known-a-2
     write-fed-requires
     enum-told-2
     slice-aggregate-write-word-2
     write-word-requires-2
-    enum-known-a-2
+    enum-known-a-3
     write-returned-requires
     enum-told-3
     write-released-requires
     enum-told-4
     slice-aggregate-write-word-3
     write-word-requires-3
-    enum-known-a-3
-    write-refused-requires
     same-length
     returns-2
     same-length-2
