@@ -157,7 +157,7 @@ ruleBy f p (call.Return k) v d = giveBack f p k
 ruleBy f p (call.Release k) v d = release p k
 ruleBy f p (call.Recycle k) v d = recycle p k
 
-abbrev pub stepBy : Figures → Plant → Call → List ℕ → List ℕ → Outcome
+unfoldable pub stepBy : Figures → Plant → Call → List ℕ → List ℕ → Outcome
 stepBy f p c v d = let r = ruleBy f p c v d in decide p (first (r .tests)) (r .done)
 
 abbrev pub step : Figures → Plant → Request → Outcome

@@ -100,10 +100,11 @@ module _ (f : Figures) (q : Quantity f) where
       omega (arith, q .asm1-linear .splits k (k-le k _ _ e) p.reject, q .asm1-linear .adds p.sludge (drawn k p.reject), q .silent 0)
 
   step-kept : (p : Plant) (c : Call) (v d : List ℕ) → Kept p c v (stepBy f p c v d)
+  unfolding stepBy
   step-kept p c v d = decide-case (Kept p c v) p _ _ (done-kept p c v d) (refused-kept p c v _)
 
   recycle-kept : (p : Plant) (k : ℕ) → inTanks p ≡ inTanks (step f p (recycling k) .plant)
-  unfolding recycle
+  unfolding stepBy recycle
   recycle-kept p k =
       decide-case (λ o. inTanks p ≡ inTanks (o .plant)) p _ _
       (λ e. omega (arith, done-kept p (call.Recycle k) noColumns noColumns e, q .silent 0))

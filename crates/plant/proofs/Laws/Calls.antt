@@ -25,7 +25,7 @@ use Rattle.plant.specs.declared.answer.Outcome.{Outcome}
 use Rattle.plant.specs.declared.answer.Told.{Told}
 use Rattle.plant.specs.Record.{recordWithin}
 use Rattle.plant.specs.Answer.{nothing, told, refused, first, decide}
-use Rattle.plant.specs.Calls.{receive, feed, settle, giveBack, release, recycle, ruleBy, step, refusalOf, tellsBy, toldOf, settling}
+use Rattle.plant.specs.Calls.{receive, feed, settle, giveBack, release, recycle, ruleBy, stepBy, step, refusalOf, tellsBy, toldOf, settling}
 use Rattle.plant.specs.Calls.{TellsLaw, ExactLaw}
 use Rattle.plant.proofs.Laws.Decision.{first-pass, first-none, first-passed, unless-passed}
 
@@ -49,7 +49,7 @@ tells-by f p (call.Release k) v d = (refl, refl)
 tells-by f p (call.Recycle k) v d = (refl, refl)
 
 pub tells : TellsLaw
-unfolding toldOf
+unfolding stepBy toldOf
 tells f p r =
     decide-told p (refusalOf f p r) _
     ∙ ap (λ (t : Told). cond (eqb (refusalOf f p r) 0) t (nothing (refusalOf f p r))) (tells-by f p (r .call) (r .sludge) (r .digester) .0)

@@ -25,7 +25,7 @@ use Rattle.plant.specs.declared.answer.Request.{Request}
 use Rattle.plant.specs.declared.answer.Outcome.{Outcome}
 use Rattle.plant.specs.Record.{freshPlant, recordWithin}
 use Rattle.plant.specs.Answer.{first}
-use Rattle.plant.specs.Calls.{receive, feed, settle, giveBack, release, recycle, ruleBy, step, refusalOf}
+use Rattle.plant.specs.Calls.{receive, feed, settle, giveBack, release, recycle, ruleBy, stepBy, step, refusalOf}
 use Rattle.plant.specs.Balance.{after, codIn, tknIn, oxygenIn, nitrateIn}
 use Rattle.plant.specs.Held.{heldTotals, heldOf}
 use Rattle.plant.proofs.Laws.Record.{sludge-within, digester-within, reject-within, held-within}
@@ -79,6 +79,7 @@ module _ (f : Figures) (p : Plant) (h : recordWithin p ≡ true) where
       tanks-within _ fits (digester-within p h) (rest-within k asm1Ceilings p.reject (reject-within p h))
 
 pub step-within : (f : Figures) (p : Plant) (r : Request) → recordWithin p ≡ true → recordWithin (step f p r .plant) ≡ true
+unfolding stepBy
 step-within f p r h =
     decide-case Stays p (refusalOf f p r) _ (done-within f p h (r .call) (r .sludge) (r .digester)) (λ n. h)
 

@@ -54,21 +54,27 @@ by-call : (p : Plant) (r : Request) (w : Call) {o : Outcome} → r .call ≡ w �
 by-call p r w e h = answered house p r (h ∙ ap (λ x. stepBy house p x (r .sludge) (r .digester)) (sym e))
 
 returns : tie.Need-returns
+unfolding stepBy
 returns c = by-call _ _ _ (c .before .enum-told .given .1) (c .receive .ensures .0)
 
 returns-2 : tie.Need-returns-2
+unfolding stepBy
 returns-2 c = by-call _ _ _ (c .before .before .call .given .1) (c .feed .ensures .0)
 
 returns-3 : tie.Need-returns-3
+unfolding stepBy
 returns-3 c = by-call _ _ _ (c .before .before .call2 .given .1) (c .settle .ensures .0)
 
 returns-4 : tie.Need-returns-4
+unfolding stepBy
 returns-4 c = by-call _ _ _ (c .before .before .call3 .given .1) (c .give-back .ensures .0)
 
 returns-5 : tie.Need-returns-5
+unfolding stepBy
 returns-5 c = by-call _ _ _ (c .before .before .call4 .given .1) (c .release .ensures .0)
 
 returns-6 : tie.Need-returns-6
+unfolding stepBy
 returns-6 c = by-call _ _ _ (c .before .before .call5 .given .1) (c .recycle .ensures .0)
 
 pub answer-request-spec : {M : Type 1} → statement M

@@ -2,7 +2,7 @@
 use Rattle.vectors.specs.Figures.{house}
 use Rattle.plant.specs.declared.answer.Answer.the-variants.{Received}
 use Rattle.plant.specs.Record.{noColumns}
-use Rattle.plant.specs.Calls.{receive}
+use Rattle.plant.specs.Calls.{receive, stepBy}
 use Rattle.plant.proofs.Laws.Calls.{answered}
 use Rattle.plant.proofs.Laws.Decision.{stop, pass, none, flag}
 use borrow.Author.Needs.{needs}
@@ -22,7 +22,7 @@ asm1-sum-requires : tie.Need-asm1-sum-requires
 asm1-sum-requires c κs = flag (c .before .asm1-sum-within .ensures) (c .if3 .taken)
 
 returns : tie.Need-returns
-unfolding receive
+unfolding stepBy receive
 returns c =
     let at-sum = c .before .before in
     let at-fits = at-sum .before in
@@ -45,7 +45,7 @@ refusal-requires : tie.Need-refusal-requires
 refusal-requires c κs = search needs
 
 returns-2 : tie.Need-returns-2
-unfolding receive
+unfolding stepBy receive
 returns-2 c =
     let at-fits = c .before in
     let at-vector = at-fits .before .before .before in
@@ -59,7 +59,7 @@ refusal-requires-2 : tie.Need-refusal-requires-2
 refusal-requires-2 c κs = search needs
 
 returns-3 : tie.Need-returns-3
-unfolding receive
+unfolding stepBy receive
 returns-3 c =
     let at-vector = c .before in
     let at-record = at-vector .before .before in
@@ -71,7 +71,7 @@ refusal-requires-3 : tie.Need-refusal-requires-3
 refusal-requires-3 c κs = search needs
 
 returns-4 : tie.Need-returns-4
-unfolding receive
+unfolding stepBy receive
 returns-4 c =
     answered house _ _ (stop _ _ _ 1 _ tt (flag (c .before .before .record-within .ensures) (c .before .if1 .left)) (c .refusal3 .ensures))
 

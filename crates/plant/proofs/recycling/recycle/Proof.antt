@@ -6,7 +6,7 @@ use Rattle.vectors.specs.Columns.{asm1Ceilings, within, added}
 use Rattle.vectors.specs.Figures.{house}
 use Rattle.plant.specs.declared.answer.Answer.the-variants.{Recycled}
 use Rattle.plant.specs.Record.{noColumns}
-use Rattle.plant.specs.Calls.{recycle}
+use Rattle.plant.specs.Calls.{recycle, stepBy}
 use Rattle.plant.proofs.Laws.Record.{reject-within, thousandths-le}
 use Rattle.plant.proofs.Laws.Calls.{answered}
 use Rattle.plant.proofs.Laws.Decision.{stop, pass, none, flag}
@@ -45,7 +45,7 @@ asm1-rest-requires : tie.Need-asm1-rest-requires
 asm1-rest-requires c κs = low (c .before .before .before .before)
 
 returns : tie.Need-returns
-unfolding recycle
+unfolding stepBy recycle
 returns c =
     let at-rest = c .before in
     let at-sum = at-rest .before in
@@ -77,7 +77,7 @@ refusal-requires : tie.Need-refusal-requires
 refusal-requires c κs = search needs
 
 returns-2 : tie.Need-returns-2
-unfolding recycle
+unfolding stepBy recycle
 returns-2 c =
     let at-fits = c .before in
     let at-drawn = at-fits .before .before in
@@ -95,7 +95,7 @@ refusal-requires-2 : tie.Need-refusal-requires-2
 refusal-requires-2 c κs = search needs
 
 returns-3 : tie.Need-returns-3
-unfolding recycle
+unfolding stepBy recycle
 returns-3 c =
     let at-k = c .before in
     let at-record = at-k .before .before in
@@ -107,7 +107,7 @@ refusal-requires-3 : tie.Need-refusal-requires-3
 refusal-requires-3 c κs = search needs
 
 returns-4 : tie.Need-returns-4
-unfolding recycle
+unfolding stepBy recycle
 returns-4 c =
     answered house _ _ (stop _ _ _ 1 _ tt (flag (c .before .before .record-within .ensures) (c .before .if1 .left)) (c .refusal3 .ensures))
 

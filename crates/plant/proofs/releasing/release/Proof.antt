@@ -5,7 +5,7 @@ use Prim.Native.Nat.{_≤_}
 use Rattle.vectors.specs.Columns.{asm1Ceilings, within}
 use Rattle.vectors.specs.Figures.{house}
 use Rattle.plant.specs.declared.answer.Answer.the-variants.{Released}
-use Rattle.plant.specs.Calls.{release}
+use Rattle.plant.specs.Calls.{release, stepBy}
 use Rattle.plant.proofs.Laws.Record.{reject-within, thousandths-le}
 use Rattle.plant.proofs.Laws.Calls.{answered}
 use Rattle.plant.proofs.Laws.Decision.{stop, pass, none, flag}
@@ -38,7 +38,7 @@ asm1-rest-requires : tie.Need-asm1-rest-requires
 asm1-rest-requires c κs = low (c .before)
 
 returns : tie.Need-returns
-unfolding release
+unfolding stepBy release
 returns c =
     let at-rest = c .before .before in
     let at-k = at-rest .before .before .before in
@@ -59,7 +59,7 @@ refusal-requires : tie.Need-refusal-requires
 refusal-requires c κs = search needs
 
 returns-2 : tie.Need-returns-2
-unfolding release
+unfolding stepBy release
 returns-2 c =
     let at-k = c .before in
     let at-record = at-k .before .before in
@@ -71,7 +71,7 @@ refusal-requires-2 : tie.Need-refusal-requires-2
 refusal-requires-2 c κs = search needs
 
 returns-3 : tie.Need-returns-3
-unfolding release
+unfolding stepBy release
 returns-3 c =
     answered house _ _ (stop _ _ _ 1 _ tt (flag (c .before .before .record-within .ensures) (c .before .if1 .left)) (c .refusal2 .ensures))
 

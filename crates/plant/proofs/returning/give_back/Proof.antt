@@ -8,7 +8,7 @@ use Rattle.interface.specs.Return.{returnOf}
 use Rattle.vectors.proofs.Laws.Figures.{house-permitted}
 use Rattle.vectors.proofs.Laws.Draw.{drawn-below}
 use Rattle.plant.specs.Answer.{first, decide}
-use Rattle.plant.specs.Calls.{returnedTests, returned, giveBack}
+use Rattle.plant.specs.Calls.{returnedTests, returned, giveBack, stepBy}
 use Rattle.plant.proofs.Laws.Record.{digester-within, thousandths-le}
 use Rattle.plant.proofs.Laws.Calls.{answered}
 use Rattle.plant.proofs.Laws.Decision.{stop, pass, flag}
@@ -51,7 +51,7 @@ return-converted-requires : tie.Need-return-converted-requires
 return-converted-requires c κs = search needs
 
 returns : tie.Need-returns
-unfolding giveBack
+unfolding stepBy giveBack
 returns c =
     let at-rest = c .before .before in
     let at-drawn = at-rest .before in
@@ -69,7 +69,7 @@ refusal-requires : tie.Need-refusal-requires
 refusal-requires c κs = search needs
 
 returns-2 : tie.Need-returns-2
-unfolding giveBack
+unfolding stepBy giveBack
 returns-2 c =
     let at-k = c .before in
     let at-record = at-k .before .before in
@@ -81,7 +81,7 @@ refusal-requires-2 : tie.Need-refusal-requires-2
 refusal-requires-2 c κs = search needs
 
 returns-3 : tie.Need-returns-3
-unfolding giveBack
+unfolding stepBy giveBack
 returns-3 c =
     answered house _ _ (stop _ _ _ 1 _ tt (flag (c .before .before .record-within .ensures) (c .before .if1 .left)) (c .refusal2 .ensures))
 

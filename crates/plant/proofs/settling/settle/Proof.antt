@@ -4,7 +4,7 @@ use mathlib.Core.Path.{refl, sym, ap, _∙_}
 use Rattle.vectors.specs.Columns.{digesterCeilings}
 use Rattle.vectors.specs.Figures.{house}
 use Rattle.vectors.proofs.Laws.Columns.{within-below}
-use Rattle.plant.specs.Calls.{settle}
+use Rattle.plant.specs.Calls.{settle, stepBy}
 use Rattle.plant.proofs.Laws.Record.{digester-within}
 use Rattle.plant.proofs.Laws.Calls.{answered}
 use Rattle.plant.proofs.Laws.Decision.{stop, pass, decide-none, decide-refused, flag}
@@ -28,7 +28,7 @@ open-balance-requires c κs =
     (within-below digesterCeilings _ held, within-below digesterCeilings _ proposed)
 
 returns : tie.Need-returns
-unfolding settle
+unfolding stepBy settle
 returns c =
     let at-closed = c .before .before in
     let at-vector = at-closed .before .before .before in
@@ -42,7 +42,7 @@ refusal-requires : tie.Need-refusal-requires
 refusal-requires c κs = search needs
 
 returns-2 : tie.Need-returns-2
-unfolding settle
+unfolding stepBy settle
 returns-2 c =
     let at-open = c .before in
     let at-vector = at-open .before .before .before in
@@ -58,7 +58,7 @@ refusal-requires-2 : tie.Need-refusal-requires-2
 refusal-requires-2 c κs = search needs
 
 returns-3 : tie.Need-returns-3
-unfolding settle
+unfolding stepBy settle
 returns-3 c =
     let at-vector = c .before in
     let at-record = at-vector .before .before in
@@ -70,7 +70,7 @@ refusal-requires-3 : tie.Need-refusal-requires-3
 refusal-requires-3 c κs = search needs
 
 returns-4 : tie.Need-returns-4
-unfolding settle
+unfolding stepBy settle
 returns-4 c =
     answered house _ _ (stop _ _ _ 1 _ tt (flag (c .before .before .record-within .ensures) (c .before .if1 .left)) (c .refusal3 .ensures))
 
