@@ -4,7 +4,7 @@
 --   sumOver                                 a number that each call and its outcome give, added up over the list
 --   accepted                                an answer that tells no refusal
 --   counts                                  what a call counts for: a receive takes its vector in, a release hands one out, a settle
---                                           lets gas go; the others, recycles among them, move columns between the tanks alone
+--                                           lets gas go; of the others, recycles among them, only what they tell is counted
 --   received, released                      a total of the vectors handed to accepted receives, and handed out by accepted releases
 --   burnt, oxygenReduced, nitrateReduced    what accepted feeds tell
 --   gas                                     the gas COD handed to accepted settles
@@ -57,7 +57,7 @@ pub record Counts : Type 0 where
   pub released : Bool
   pub gas : ℕ
 
--- a call between the tanks
+-- a call between the tanks: what it lets go of, if anything, it tells
 abbrev pub inside : Counts
 inside = record { received = false; released = false; gas = 0 }
 

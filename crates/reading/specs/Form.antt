@@ -10,12 +10,10 @@
 use mathlib.Core.Bool.{Bool, true, false, cond, _&&_}
 use mathlib.Core.List.{List, [], _∷_}
 use Prim.Native.Nat.{ℕ, _-_}
-use Prim.Native.String.{String}
 use lib.Dec.{leb, ltb, eqb}
 use lib.ListN.{length, take, drop, getD, set, replicate}
 use Rattle.vectors.specs.Columns.{asm1, asm1Columns}
 use Rattle.vectors.specs.Units.{milligrams}
-use Rattle.plant.specs.declared.answer.Call.{Call}
 use Rattle.plant.specs.declared.answer.Call.the-variants as call
 use Rattle.reading.specs.declared.number.Number.{Number}
 use Rattle.reading.specs.declared.number.Number.the-variants.{Value, NotANumber}
@@ -28,7 +26,7 @@ use Rattle.reading.specs.declared.fields.Fields.{Fields}
 use Rattle.reading.specs.declared.form.Form.{Form}
 use Rattle.reading.specs.declared.form.Form.the-variants.{Asked, NotAForm}
 use Rattle.reading.specs.declared.form.Line.{Line}
-use Rattle.reading.specs.Text.{ascii, sameBytes, upTo, behind, pieces, space, opening, closing}
+use Rattle.reading.specs.Text.{ascii, sameBytes, Word, _means_, lookUp, upTo, behind, pieces, space, opening, closing}
 use Rattle.reading.specs.Number.{readNumber}
 use Rattle.reading.specs.Names.{namesOf, columnOf}
 
@@ -112,25 +110,17 @@ abbrev pub settleLine : Number → Fields → Line
 settleLine (Value g) f = settleFields g f
 settleLine NotANumber f = noForm
 
--- the words of the forms with a number alone, (feed N) and its like, and their calls
-pub record Word : Type 0 where
-  pub word : String
-  pub call : ℕ → Call
-
-infix 80 _means_
-abbrev pub _means_ : String → (ℕ → Call) → Word
-w means c = record { word = w; call = c }
-
-abbrev pub numberWords : List Word
-numberWords = "feed" means call.Feed ∷ "return" means call.Return ∷ "release" means call.Release ∷ "recycle" means call.Recycle ∷ []
-
--- the call of the word w with its number k, by a table
-unfoldable pub callBy : List Word → List ℕ → ℕ → Form
-callBy [] w k = NotAForm
-callBy (r ∷ rs) w k = cond (sameBytes w (ascii r.word)) (Asked (r .call k)) (callBy rs w k)
+-- (feed N), (return N), (release N), and (recycle N) of document 02, E1: the words, and what each asks with its number
+abbrev pub numberWords : ℕ → List (Word Form)
+numberWords k =
+    "feed" means Asked (call.Feed k)
+    ∷ "return" means Asked (call.Return k)
+    ∷ "release" means Asked (call.Release k)
+    ∷ "recycle" means Asked (call.Recycle k)
+    ∷ []
 
 abbrev pub callOf : List ℕ → ℕ → Form
-callOf w k = callBy numberWords w k
+callOf w k = lookUp NotAForm (numberWords k) w
 
 abbrev pub numberLine : List ℕ → Number → Line
 numberLine w (Value k) = bare (callOf w k)

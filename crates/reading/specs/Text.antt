@@ -4,6 +4,7 @@
 --   sameBytes        two byte strings are the same, as a test
 --   upTo, behind     the bytes before the first b, and those behind it
 --   pieces           the pieces that end with b, and what stands behind the last b
+--   _means_, lookUp  a table of words and what they stand for, and the first of its words that is w
 --   oneLine          no newline stands in a byte string, as a test
 use mathlib.Core.Bool.{Bool, true, false, cond, not, _&&_}
 use mathlib.Core.List.{List, [], _∷_}
@@ -37,6 +38,21 @@ onFirst c (p ∷ ps) = (c ∷ p) ∷ ps
 unfoldable pub pieces : ℕ → List ℕ → List (List ℕ)
 pieces b [] = [] ∷ []
 pieces b (c ∷ s) = cond (eqb c b) ([] ∷ pieces b s) (onFirst c (pieces b s))
+
+-- ---- words and what they stand for
+
+pub record Word (A : Type 0) : Type 0 where
+  pub word : String
+  pub meaning : A
+
+infix 80 _means_
+abbrev pub _means_ : {A : Type 0} → String → A → Word A
+w means a = record { word = w; meaning = a }
+
+-- d where the table does not have the word
+unfoldable pub lookUp : {A : Type 0} → A → List (Word A) → List ℕ → A
+lookUp d [] w = d
+lookUp d (r ∷ rs) w = cond (sameBytes w (ascii r.word)) (r .meaning) (lookUp d rs w)
 
 -- ---- the bytes that the language names
 

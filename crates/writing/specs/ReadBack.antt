@@ -13,14 +13,13 @@ use mathlib.Core.List.{List, [], _∷_}
 use mathlib.Core.Path.{_≡_}
 use Prim.Native.Nat.{ℕ, _+_, _-_, _*_, _^_, _<_}
 use lib.Dec.{eqb}
-use Prim.Native.String.{String}
 use lib.ListN.{length, drop, getD}
 use Rattle.vectors.specs.Units.{milligrams, ticks}
 use Rattle.plant.specs.declared.answer.Answer.{Answer}
 use Rattle.plant.specs.declared.answer.Answer.the-variants.{Refused, Received, Fed, Settled, Returned, Released, Recycled}
 use Rattle.plant.specs.declared.answer.Told.{Told}
 use Rattle.plant.specs.Answer.{told}
-use Rattle.reading.specs.Text.{ascii, sameBytes, upTo, space, closing}
+use Rattle.reading.specs.Text.{Word, _means_, lookUp, upTo, space, closing}
 use Rattle.reading.specs.Number.{isDigit}
 use Rattle.writing.specs.Answer.{answerText}
 
@@ -42,33 +41,23 @@ numbersIn s = scan false 0 s
 abbrev pub wordIn : List ℕ → List ℕ
 wordIn s = upTo closing (upTo space (drop 4 s))
 
--- the words of accepted answers, and the answer with the numbers in its text
-pub record Reply : Type 0 where
-  pub word : String
-  pub answer : List ℕ → Answer
-
-infix 80 _stands_
-abbrev pub _stands_ : String → (List ℕ → Answer) → Reply
-w stands a = record { word = w; answer = a }
-
-abbrev pub replies : List Reply
-replies =
-    "receive" stands (λ ns. Received)
-    ∷ "feed" stands (λ ns. Fed (milligrams (getD ns 0 0)) (milligrams (getD ns 1 0)) (ticks (getD ns 2 0)) (getD ns 3 0))
-    ∷ "settle" stands (λ ns. Settled)
-    ∷ "return" stands (λ ns. Returned (milligrams (getD ns 0 0)))
-    ∷ "release" stands (λ ns. Released)
-    ∷ "recycle" stands (λ ns. Recycled)
+-- the words of accepted answers, and the answer with the numbers ns in its text
+abbrev pub replies : List ℕ → List (Word Answer)
+replies ns =
+    "receive" means Received
+    ∷ "feed" means Fed (milligrams (getD ns 0 0)) (milligrams (getD ns 1 0)) (ticks (getD ns 2 0)) (getD ns 3 0)
+    ∷ "settle" means Settled
+    ∷ "return" means Returned (milligrams (getD ns 0 0))
+    ∷ "release" means Released
+    ∷ "recycle" means Recycled
     ∷ []
 
--- the answer of a word with its numbers, by a table; a word that is not in it is read as a refusal
-unfoldable pub replyBy : List Reply → List ℕ → List ℕ → Answer
-replyBy [] w ns = Refused (getD ns 0 0)
-replyBy (r ∷ rs) w ns = cond (sameBytes w (ascii r.word)) (r .answer ns) (replyBy rs w ns)
-
--- n stands second in a refusal
+-- a refusal, whose second byte is n; else by the word, and a word that is not in the table is read as a refusal too
 unfoldable pub readAnswer : List ℕ → Answer
-readAnswer s = cond (eqb (getD s 1 0) 110) (Refused (getD (numbersIn s) 0 0)) (replyBy replies (wordIn s) (numbersIn s))
+readAnswer s =
+    let ns = numbersIn s in
+    let no = Refused (getD ns 0 0) in
+    cond (eqb (getD s 1 0) 110) no (lookUp no (replies ns) (wordIn s))
 
 abbrev pub short : ℕ → Type 0
 short n = n < 10 ^ 20

@@ -25,7 +25,8 @@ use Rattle.plant.specs.declared.answer.Outcome.{Outcome}
 use Rattle.plant.specs.declared.answer.Told.{Told}
 use Rattle.plant.specs.Record.{recordWithin}
 use Rattle.plant.specs.Answer.{nothing, told, refused, first, decide}
-use Rattle.plant.specs.Calls.{receive, feed, settle, giveBack, release, recycle, ruleBy, stepBy, step, refusalOf, tellsBy, toldOf, settling}
+use Rattle.plant.specs.Calls.{receive, feed, settle, giveBack, release, recycle, ruleBy, stepBy, step}
+use Rattle.plant.specs.Calls.{refusalOf, tellsBy, toldOf, settling}
 use Rattle.plant.specs.Calls.{TellsLaw, ExactLaw}
 use Rattle.plant.proofs.Laws.Decision.{first-pass, first-none, first-passed, unless-passed}
 

@@ -5,7 +5,6 @@
 --   add-none, add-again, add-first, add-marked              a further field: none, one whose column was named, one that is the first
 --   fields-unclosed, fields-go, fields-stop, fields-end   one turn of a loop over fields
 --   form-receive, form-settle, form-number, ..  a form, by the place of its first space
---   call-found, call-further                    the call of a word: it is the table's first, or a further one's
 --   line-..                                     a whole line
 use mathlib.Core.Bool.{Bool, true, false, cond, and-false}
 use mathlib.Core.List.{List, [], _∷_}
@@ -23,8 +22,6 @@ use Rattle.reading.specs.declared.number.Number.the-variants.{NotANumber
 use Rattle.reading.specs.declared.names.Column.{Column}
 use Rattle.reading.specs.declared.names.Column.the-variants.{At, Unknown}
 use Rattle.reading.specs.declared.names.Vector.the-variants.{Sludge, Digester}
-use Rattle.reading.specs.declared.form.Form.{Form}
-use Rattle.reading.specs.declared.form.Form.the-variants.{Asked}
 use Rattle.reading.specs.declared.form.Line.{Line}
 use Rattle.reading.specs.declared.fields.Field.{Field}
 use Rattle.reading.specs.declared.fields.Field.the-variants.{Of, NotAField}
@@ -33,7 +30,7 @@ use Rattle.reading.specs.Text.{ascii, sameBytes, upTo, behind, pieces}
 use Rattle.reading.specs.Number.{readNumber}
 use Rattle.reading.specs.Names.{namesOf, columnOf}
 use Rattle.reading.specs.Form.{fieldOf, readField, readPiece, noFields, addField, columnIn, numberIn, atEnd, whenOk}
-use Rattle.reading.specs.Form.{readPieces, readFields, noForm, receiveLine, settleLine, settleRest, Word, callBy, numberLine}
+use Rattle.reading.specs.Form.{readPieces, readFields, noForm, receiveLine, settleLine, settleRest, numberLine}
 use Rattle.reading.specs.Form.{formOf, readForm, inBrackets, readLine}
 use Rattle.reading.proofs.Laws.Text.{rest-of, upTo-place, behind-drop, pieces-cut, pieces-last, pieces-some}
 use Rattle.reading.proofs.Laws.Number.{number-empty}
@@ -210,17 +207,6 @@ module _ (t : List ℕ) (k : ℕ) (e : k ≡ 0 + length (upTo 32 t)) where
       → numberLine (take k t) (readNumber (behind 32 t)) ≡ readForm t
   unfolding formOf
   form-number h i = rw (word-is _ h, word-is _ i) (ap (λ (x : List ℕ). numberLine x (readNumber (behind 32 t))) (upTo-place 32 t k e))
-
--- ---- the call of a word, by a table
-
-module _ (r : Word) (rs : List Word) (w : List ℕ) (k : ℕ) where
-  pub call-found : sameBytes w (ascii r.word) ≡ true → Asked (r .call k) ≡ callBy (r ∷ rs) w k
-  unfolding callBy
-  call-found h = rw h
-
-  pub call-further : {x : Form} → sameBytes w (ascii r.word) ≡ false → x ≡ callBy rs w k → x ≡ callBy (r ∷ rs) w k
-  unfolding callBy
-  call-further h e = rw h e
 
 pub ok-line : {x : Line} (f : Fields) (l : Line) → f .ok ≡ true → x ≡ l → x ≡ cond (f .ok) l noForm
 ok-line f l h e = rw h e

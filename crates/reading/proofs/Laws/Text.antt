@@ -2,6 +2,7 @@
 --
 --   head-at                         the element at i, and the rest
 --   same-..                         comparing two byte strings, one byte a turn
+--   look-found, look-further        a word of a table: it is the first, or a further one
 --   up-here, up-next, up-past, up-end   a search for the first b, one byte a turn
 --   upTo-take, upTo-place, upTo-length, behind-drop   what a search has found, by its place
 --   rest-of                         a part of a slice that goes to its end
@@ -17,7 +18,7 @@ use lib.Dec.{eqb}
 use lib.ListN.{length, take, drop, getD, drop-of-length-le, length-drop}
 use lib.Seq.{drop-cons, take-all}
 use borrow.Author.Tests.{eq-eqb, ne-eqb}
-use Rattle.reading.specs.Text.{sameBytes, upTo, behind, onFirst, pieces}
+use Rattle.reading.specs.Text.{ascii, sameBytes, Word, lookUp, upTo, behind, onFirst, pieces}
 
 pub head-at : {A : Type 0} (s : List A) (d : A) (i : ℕ) → i < length s → drop i s ≡ getD s i d ∷ drop (i + 1) s
 head-at s d i h = rw (add-one, drop-cons s i d)
@@ -46,6 +47,17 @@ module _ (s t : List ℕ) (i : ℕ) where
   pub same-end : length s ≤ i → length t ≤ i → sameBytes (drop i s) (drop i t) ≡ true
   unfolding sameBytes
   same-end h k = simp (drop-of-length-le s h, drop-of-length-le t k)
+
+-- ---- looking a word up
+
+module _ {A : Type 0} (d : A) (r : Word A) (rs : List (Word A)) (w : List ℕ) where
+  pub look-found : sameBytes w (ascii r.word) ≡ true → r .meaning ≡ lookUp d (r ∷ rs) w
+  unfolding lookUp
+  look-found h = rw h
+
+  pub look-further : {x : A} → sameBytes w (ascii r.word) ≡ false → x ≡ lookUp d rs w → x ≡ lookUp d (r ∷ rs) w
+  unfolding lookUp
+  look-further h e = rw h e
 
 -- ---- searching
 

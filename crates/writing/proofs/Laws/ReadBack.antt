@@ -17,11 +17,11 @@ use lib.Seq.{take-suc, take-all}
 use Rattle.vectors.specs.Units.{milligrams, ticks}
 use Rattle.vectors.proofs.Laws.Columns.{both-true}
 use Rattle.plant.specs.declared.answer.Answer.the-variants.{Refused, Received, Fed, Settled, Returned, Released, Recycled}
-use Rattle.reading.specs.Text.{ascii, sameBytes, upTo}
+use Rattle.reading.specs.Text.{ascii, sameBytes, lookUp, upTo}
 use Rattle.reading.specs.Number.{isDigit, allDigits, valueAfter, decimal}
 use Rattle.reading.specs.Names.{sludgeNames}
 use Rattle.writing.specs.Answer.{labelled, columnText, columnsText, fedText, fourText, returnedText, releasedText, refusedText}
-use Rattle.writing.specs.ReadBack.{noDigits, scan, numbersIn, replyBy, readAnswer, short, ReadBackLaw, ReadColumnsLaw, SameTextLaw}
+use Rattle.writing.specs.ReadBack.{noDigits, scan, numbersIn, readAnswer, short, ReadBackLaw, ReadColumnsLaw, SameTextLaw}
 use Rattle.writing.proofs.Laws.Decimal.{decimal-digits, decimal-value}
 
 -- ---- labels and numbers
@@ -122,7 +122,7 @@ scan-fed b o n w h i j k =
     ∙ ap (λ (x : List ℕ). b ∷ o ∷ n ∷ x) (scan-end (ascii " warn ") w refl k)
 
 pub answer-read : ReadBackLaw
-unfolding readAnswer replyBy sameBytes upTo columnsText columnText fourText returnedText releasedText refusedText noDigits
+unfolding readAnswer lookUp sameBytes upTo columnsText columnText fourText returnedText releasedText refusedText noDigits
 answer-read (Refused n) v h = ap (λ (ns : List ℕ). Refused (getD ns 0 0)) (scan-end (ascii "(no ") n refl (h .0))
 answer-read Received v h = refl
 answer-read (Fed b o n w) v h =
