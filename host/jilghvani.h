@@ -69,9 +69,9 @@ extern "C" {
 #endif
 
 /* The version of this header, and its three numbers. */
-#define JILGHVANI_VERSION "0.7.0"
+#define JILGHVANI_VERSION "0.8.0"
 #define JILGHVANI_VERSION_MAJOR 0
-#define JILGHVANI_VERSION_MINOR 7
+#define JILGHVANI_VERSION_MINOR 8
 #define JILGHVANI_VERSION_PATCH 0
 
 /* Sizes, and the places of columns: record[JILGHVANI_DIGESTER_AT +

@@ -1,7 +1,7 @@
 //! A second implementation of the ASM1 and ADM1 link, written from document 01, from
-//! request E1 of document 02 (recycle) and, for what they have no line for (conversions by
-//! themselves, `close`, `gap`), from a description in words; never from the code of the
-//! verified link.
+//! requests E1 (recycle) and E2 (fields in column order) of document 02 and, for what they
+//! have no line for (conversions by themselves, `close`, `gap`), from a description in
+//! words; never from the code of the verified link.
 //!
 //! The link:
 //! - `tables`: column names, ceilings, the house set, COD and TKN of a vector;
@@ -15,7 +15,7 @@
 //! For the tools in `src/bin` and for the tests:
 //! - `random`: the generator of their numbers;
 //! - `balances`: the four balances over a list, from its calls and answers;
-//! - `trials`: records, calls, lines, vectors and proposals to try, fair and damaged;
+//! - `trials`: records, calls, lines, vectors and proposals to try, fair, damaged and out of order;
 //! - `outside`: trials of the program's input, output and arguments;
 //! - `host`: the functions of the C library, with the feature `library` alone.
 

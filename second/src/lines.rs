@@ -36,21 +36,22 @@ pub fn read(line: &[u8]) -> Option<Call> {
     whole_number(inner.strip_prefix(b"recycle ")?).map(Call::Recycle)
 }
 
-/// Reads none or more fields, each ` (name N)`, in any order and each at most once.
+/// Reads none or more fields, each ` (name N)`, in the order of their columns: each one names
+/// a column behind the last one named, so that none stands twice.
 fn fields<const W: usize>(
     mut rest: &[u8],
     column_of: impl Fn(&[u8]) -> Option<usize>,
 ) -> Option<[u64; W]> {
     let mut vector = [0; W];
-    let mut seen = 0u32;
+    let mut last = None;
     while !rest.is_empty() {
         rest = rest.strip_prefix(b" (")?;
         let space = rest.iter().take(5).position(|&byte| byte == b' ')?;
         let column = column_of(&rest[..space])?;
-        if seen & (1 << column) != 0 {
+        if last.is_some_and(|last| column <= last) {
             return None;
         }
-        seen |= 1 << column;
+        last = Some(column);
         let (number, behind) = leading_number(&rest[space + 1..])?;
         vector[column] = number;
         rest = behind.strip_prefix(b")")?;

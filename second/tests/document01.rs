@@ -1,6 +1,6 @@
 //! Document 01's own examples: the worked plants a to k, the session, the small
-//! example of each refusal, the grammar of a line, the buffer and the cutting of
-//! an input into lines.
+//! example of each refusal, the grammar of a line (with the order of fields that request
+//! E2 asks for, see `order.rs`), the buffer and the cutting of an input into lines.
 
 mod named;
 
@@ -184,7 +184,7 @@ fn destinations_at_their_ceiling() {
 #[test]
 fn settle_replaces() {
     let mut plant = with_digester(&[("xpr", 10), ("sin", 5), ("co", 1), ("cn", 2)]);
-    let line = "(settle 4 (cn 2) (sch4 6) (sin 9805) (sic 1000000000000) (co 1))";
+    let line = "(settle 4 (sch4 6) (sin 9805) (sic 1000000000000) (co 1) (cn 2))";
     assert_eq!(answer(&mut plant, line), "(ok settle)");
     let sic = ("sic", COD_CEILING);
     let after = digester(&[("sch4", 6), ("sin", 9805), sic, ("co", 1), ("cn", 2)]);
@@ -209,13 +209,13 @@ fn lines_that_are_forms() {
     let max = u64::MAX;
     let read = |line: &str| lines::read(line.as_bytes());
     assert_eq!(read("(receive)"), Some(Call::Receive([0; 13])));
-    let v = asm1(&[("xnd", max), ("si", 0), ("so", 7)]);
-    let line = "(receive (xnd 18446744073709551615) (si 0) (so 7))";
+    let v = asm1(&[("si", 0), ("so", 7), ("xnd", max)]);
+    let line = "(receive (si 0) (so 7) (xnd 18446744073709551615))";
     assert_eq!(read(line), Some(Call::Receive(v)));
     assert_eq!(read("(feed 18446744073709551615)"), Some(Call::Feed(max)));
     assert_eq!(read("(settle 0)"), Some(Call::Settle(0, [0; 26])));
-    let v = digester(&[("sin", 1), ("si", 2), ("sic", 3), ("xsu", 4)]);
-    assert_eq!(read("(settle 9 (sin 1) (si 2) (sic 3) (xsu 4))"), Some(Call::Settle(9, v)));
+    let v = digester(&[("si", 2), ("xsu", 4), ("sin", 1), ("sic", 3)]);
+    assert_eq!(read("(settle 9 (si 2) (xsu 4) (sin 1) (sic 3))"), Some(Call::Settle(9, v)));
     assert_eq!(read("(return 0)"), Some(Call::Return(0)));
     assert_eq!(read("(release 10)"), Some(Call::Release(10)));
 }

@@ -175,7 +175,7 @@ const SAME_WATER: [(&str, &str); 15] = [
     ("(recycle 500)", "(ok recycle)"),
     ("(receive (ss 4))", "(ok receive)"),
     ("(feed 1000)", "(ok feed burnt 1 oxygen 0 nitrate 50 warn 0)"),
-    ("(settle 2 (xi 2) (sch4 3) (sin 3840))", "(ok settle)"),
+    ("(settle 2 (sch4 3) (xi 2) (sin 3840))", "(ok settle)"),
     ("(return 1000)", "(ok return stripped 3)"),
     ("(recycle 1001)", "(no 2)"),
     ("(recycle 999)", "(ok recycle)"),

@@ -34,7 +34,8 @@ feeding k = bare (Asked (call.Feed k))
 
 abbrev pub examples : List Row
 examples =
-    ("(receive (ss 10000) (xs 30000) (so 5000) (sno 100000000))" asks receiving ("ss" is 10000 ∷ "xs" is 30000 ∷ "so" is 5000 ∷ "sno" is 100_000_000 ∷ []))
+    ("(receive (ss 10000) (xs 30000) (so 5000) (sno 100000000))"
+    asks receiving ("ss" is 10000 ∷ "xs" is 30000 ∷ "so" is 5000 ∷ "sno" is 100_000_000 ∷ []))
     ∷ ("(feed 1000)" asks feeding 1000)
     ∷ ("(feed 0)" asks feeding 0)
     ∷ ("(return 1000)" asks bare (Asked (call.Return 1000)))
@@ -45,14 +46,22 @@ examples =
     ∷ ("(recycle 01)" asks noForm)
     ∷ ("(recycle 1 (ss 1))" asks noForm)
     ∷ ("(recycled 1)" asks noForm)
-    -- no field, fields in any order, each once
+    -- no field; fields in the order of the columns; reversed, two neighbours swapped, one doubled
     ∷ ("(receive)" asks receiving [])
     ∷ ("(settle 0)" asks settling 0 [])
-    ∷ ("(settle 7 (cn 2) (si 1))" asks settling 7 ("si" is 1 ∷ "cn" is 2 ∷ []))
-    ∷ ("(receive (salk 3) (ss 0))" asks receiving ("salk" is 3 ∷ []))
-    ∷ ("(receive (ss 1) (ss 1))" asks noForm)
+    ∷ ("(receive (ss 0) (sno 2) (salk 3))" asks receiving ("sno" is 2 ∷ "salk" is 3 ∷ []))
+    ∷ ("(receive (salk 3) (sno 2) (ss 0))" asks noForm)
+    ∷ ("(receive (sno 2) (ss 0) (salk 3))" asks noForm)
+    ∷ ("(receive (ss 0) (ss 0) (sno 2))" asks noForm)
+    ∷ ("(settle 7 (si 1) (xsu 4) (sin 5) (cn 2))" asks settling 7 ("si" is 1 ∷ "xsu" is 4 ∷ "sin" is 5 ∷ "cn" is 2 ∷ []))
+    ∷ ("(settle 7 (cn 2) (sin 5) (xsu 4) (si 1))" asks noForm)
+    ∷ ("(settle 7 (si 1) (sin 5) (xsu 4) (cn 2))" asks noForm)
+    ∷ ("(settle 7 (si 1) (cn 2) (cn 2))" asks noForm)
+    -- a column between its two namings; a step back at the end
+    ∷ ("(receive (xs 1) (xi 1) (xs 1))" asks noForm)
+    ∷ ("(receive (ss 1) (xs 2) (xi 3))" asks noForm)
     -- names that begin alike, and of the other vector
-    ∷ ("(settle 0 (si 1) (sin 2) (sic 3) (xsu 4))" asks settling 0 ("si" is 1 ∷ "sin" is 2 ∷ "sic" is 3 ∷ "xsu" is 4 ∷ []))
+    ∷ ("(settle 0 (si 1) (sic 3))" asks settling 0 ("si" is 1 ∷ "sic" is 3 ∷ []))
     ∷ ("(receive (s 1))" asks noForm)
     ∷ ("(receive (sin 1))" asks noForm)
     ∷ ("(settle 0 (ss 1))" asks noForm)

@@ -1,15 +1,21 @@
--- Lines in brackets: document 01, "Lines in brackets".
+-- Lines in brackets: document 01, "Lines in brackets", as document 02 amends it.
 --
 --   readField     inside a bracket: a name, a space, a number
---   readFields    none or more fields, each behind a space, each column at most once
+--   anyFields     none or more fields, each behind a space, each column at most once
+--   inOrder       their columns rise: document 02, E2
+--   readFields    fields in that order
 --   numberWords   the words of the forms with a number alone: (feed N), (return N), (release N), and (recycle N) of document 02, E1
---   readForm      inside the outer bracket: (receive F..), (settle N F..), or one of these
---   readLine      a whole line: at most 1,024 bytes, a bracket around them
+--   formBy        inside the outer bracket: (receive F..), (settle N F..), or one of these
+--   lineBy        a whole line: at most 1,024 bytes, a bracket around them
+--   readLine      a line, its fields in order
+--   anyLine       a line of document 01 as it stood before, its fields in any order
+--   OrderLaw      the lines of readLine are those of anyLine that are ordered, and read as there
 --
 -- The part inside a bracket is read by itself.
 use mathlib.Core.Bool.{Bool, true, false, cond, _&&_}
 use mathlib.Core.List.{List, [], _∷_}
-use Prim.Native.Nat.{ℕ, _-_}
+use mathlib.Core.Path.{_≡_}
+use Prim.Native.Nat.{ℕ, _+_, _-_}
 use lib.Dec.{leb, ltb, eqb}
 use lib.ListN.{length, take, drop, getD, set, replicate}
 use Rattle.vectors.specs.Columns.{asm1, asm1Columns}
@@ -84,8 +90,33 @@ readPieces names f (p ∷ []) = atEnd f p
 readPieces names f (p ∷ (q ∷ ps)) =
     whenOk (addField f (readPiece names p) .ok) (readPieces names (addField f (readPiece names p)) (q ∷ ps))
 
+-- the fields of document 01, in any order
+abbrev pub anyFields : List (List ℕ) → List ℕ → Fields
+anyFields names s = readPieces names (noFields true) (pieces closing s)
+
+-- ---- the order of the fields: document 02, E2
+
+-- the columns that pieces name, one by one; what stands behind the last bracket names none
+unfoldable pub named : List (List ℕ) → List (List ℕ) → List ℕ
+named names [] = []
+named names (p ∷ []) = []
+named names (p ∷ (q ∷ ps)) = columnIn (readPiece names p) ∷ named names (q ∷ ps)
+
+-- each is n or above, and above the one before it
+unfoldable pub rises : ℕ → List ℕ → Bool
+rises n [] = true
+rises n (c ∷ cs) = leb n c && rises (c + 1) cs
+
+abbrev pub inOrder : List (List ℕ) → List ℕ → Bool
+inOrder names s = rises 0 (named names (pieces closing s))
+
 abbrev pub readFields : List (List ℕ) → List ℕ → Fields
-readFields names s = readPieces names (noFields true) (pieces closing s)
+readFields names s = whenOk (inOrder names s) (anyFields names s)
+
+-- a field whose column is n or behind it
+abbrev pub fieldFrom : ℕ → Field → Field
+fieldFrom n (Of c k) = cond (leb n c) (Of c k) NotAField
+fieldFrom n NotAField = NotAField
 
 -- ---- forms
 
@@ -126,23 +157,54 @@ abbrev pub numberLine : List ℕ → Number → Line
 numberLine w (Value k) = bare (callOf w k)
 numberLine w NotANumber = noForm
 
+-- a reader of fields by their names
+abbrev pub Reader : Type 0
+Reader = List (List ℕ) → List ℕ → Fields
+
 -- behind the word settle and its space: a number, then fields
-unfoldable pub settleRest : List ℕ → Line
-settleRest u = settleLine (readNumber (upTo space u)) (readFields (namesOf Digester) (drop (length (upTo space u)) u))
+abbrev pub settlePart : List ℕ → List ℕ
+settlePart u = drop (length (upTo space u)) u
+
+unfoldable pub settleBy : Reader → List ℕ → Line
+settleBy fields u = settleLine (readNumber (upTo space u)) (fields (namesOf Digester) (settlePart u))
 
 -- inside the outer bracket t: the word w up to the first space, and what stands behind it
-unfoldable pub formOf : List ℕ → List ℕ → Line
-formOf w t =
-    cond (sameBytes w (ascii "receive")) (receiveLine (readFields (namesOf Sludge) (drop (length w) t)))
-    (cond (sameBytes w (ascii "settle")) (settleRest (behind space t))
+unfoldable pub formOf : Reader → List ℕ → List ℕ → Line
+formOf fields w t =
+    cond (sameBytes w (ascii "receive")) (receiveLine (fields (namesOf Sludge) (drop (length w) t)))
+    (cond (sameBytes w (ascii "settle")) (settleBy fields (behind space t))
     (numberLine w (readNumber (behind space t))))
 
-abbrev pub readForm : List ℕ → Line
-readForm t = formOf (upTo space t) t
+abbrev pub formBy : Reader → List ℕ → Line
+formBy fields t = formOf fields (upTo space t) t
 
 -- a bracket around the whole
 unfoldable pub inBrackets : List ℕ → Bool
 inBrackets s = leb 2 (length s) && leb (length s) 1024 && eqb (getD s 0 0) opening && eqb (getD s (length s - 1) 0) closing
 
+abbrev pub inner : List ℕ → List ℕ
+inner s = take (length s - 1 - 1) (drop 1 s)
+
+abbrev pub lineBy : Reader → List ℕ → Line
+lineBy fields s = cond (inBrackets s) (formBy fields (inner s)) noForm
+
 unfoldable pub readLine : List ℕ → Line
-readLine s = cond (inBrackets s) (readForm (take (length s - 1 - 1) (drop 1 s))) noForm
+readLine s = lineBy readFields s
+
+-- ---- what the order took away: document 02, E2
+
+abbrev pub anyLine : List ℕ → Line
+anyLine s = lineBy anyFields s
+
+-- the fields inside the outer bracket t are in order, where its word w has fields
+unfoldable pub formOrdered : List ℕ → List ℕ → Bool
+formOrdered w t =
+    cond (sameBytes w (ascii "receive")) (inOrder (namesOf Sludge) (drop (length w) t))
+    (cond (sameBytes w (ascii "settle")) (inOrder (namesOf Digester) (settlePart (behind space t))) true)
+
+abbrev pub ordered : List ℕ → Bool
+ordered s = formOrdered (upTo space (inner s)) (inner s)
+
+-- a line in order is read as before, and any other is no form
+abbrev pub OrderLaw : Type 0
+OrderLaw = (s : List ℕ) → readLine s ≡ cond (ordered s) (anyLine s) noForm

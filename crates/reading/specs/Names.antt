@@ -3,11 +3,15 @@
 --   namesOf             the names of a vector's columns, as bytes; sludgeNames are those of ASM1
 --   columnFrom          the first of the names that is s, counted from k
 --   columnOf            the column that a name stands for
+--   fromColumn          that column where it is n or behind it
 --   entryAt, entries    the names of a table with four bytes a name, spaces behind a shorter one
-use mathlib.Core.Bool.{cond}
+--   distinct, IsTable   no name stands twice; a table of such names
+use mathlib.Core.Bool.{Bool, true, false, cond, _&&_}
 use mathlib.Core.List.{List, [], _∷_, map}
-use Prim.Native.Nat.{ℕ, zero, suc, _+_, _*_}
-use lib.ListN.{take, drop}
+use mathlib.Core.Path.{_≡_}
+use Prim.Native.Nat.{ℕ, zero, suc, _+_, _*_, _≤_}
+use lib.Dec.{leb}
+use lib.ListN.{length, take, drop}
 use Rattle.vectors.specs.Columns.{asm1Names, digesterNames}
 use Rattle.reading.specs.declared.names.Vector.{Vector}
 use Rattle.reading.specs.declared.names.Vector.the-variants.{Sludge, Digester}
@@ -30,6 +34,11 @@ columnFrom k (n ∷ ns) s = cond (sameBytes s n) (At k) (columnFrom (k + 1) ns s
 abbrev pub columnOf : List (List ℕ) → List ℕ → Column
 columnOf names s = columnFrom 0 names s
 
+-- the column where it is n or behind it
+abbrev pub fromColumn : ℕ → Column → Column
+fromColumn n (At c) = cond (leb n c) (At c) Unknown
+fromColumn n Unknown = Unknown
+
 -- ---- the code's tables
 
 abbrev pub entryAt : List ℕ → ℕ → List ℕ
@@ -38,3 +47,16 @@ entryAt table c = upTo space (take 4 (drop (4 * c) table))
 unfoldable pub entries : ℕ → List ℕ → List (List ℕ)
 entries zero table = []
 entries (suc n) table = upTo space (take 4 table) ∷ entries n (drop 4 table)
+
+abbrev pub unknown : Column → Bool
+unknown (At c) = false
+unknown Unknown = true
+
+-- no name stands behind itself
+unfoldable pub distinct : List (List ℕ) → Bool
+distinct [] = true
+distinct (n ∷ ns) = unknown (columnOf ns n) && distinct ns
+
+-- a table of count names, none of them twice
+abbrev pub IsTable : List ℕ → ℕ → Type 0
+IsTable table count = (length table ≡ 4 * count) × (count ≤ 26) × (distinct (entries count table) ≡ true)

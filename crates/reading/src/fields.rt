@@ -1,10 +1,8 @@
 // Fields in brackets.
 ghost use mathlib.Core.Bool.{true, false};
 ghost use mathlib.Core.Path.{_≡_};
-ghost use Prim.Native.Nat.{_*_, _≤_};
-ghost use lib.ListN.{length};
-ghost use Rattle.reading.specs.Names.{namesOf, entries};
-ghost use Rattle.reading.specs.Form.{fieldOf, readField, readPiece, noFields, columnIn, numberIn, readFields};
+ghost use Rattle.reading.specs.Names.{namesOf, entries, IsTable};
+ghost use Rattle.reading.specs.Form.{fieldOf, readField, readPiece, noFields, columnIn, numberIn, fieldFrom, readFields};
 use crate::bytes::place;
 use crate::names::Column;
 use crate::names::Vector;
@@ -25,7 +23,7 @@ pub struct Fields {
     pub seen: [bool; 26],
 }
 
-// None or more fields of a vector, each behind a space.
+// None or more fields of a vector, each behind a space, in the order of its columns.
 pub fn read_fields(v: Vector, s: &[u8]) -> Fields
     ensures { λ r. ⌜ r ≡ readFields (namesOf v) (now (s .entry)) ⌝ }
 {
@@ -43,19 +41,20 @@ pub fn read_fields(v: Vector, s: &[u8]) -> Fields
     }
 }
 
-// The same by a table of names. A column that is named for the first time gets its number and is marked as seen.
+// The same by a table of names. A name is looked up from the column behind the last one; its column gets its number and is marked as seen.
 fn fields_in(table: &[u8], count: usize, s: &[u8]) -> Fields
-    requires { ⌜ (length (now table) ≡ 4 * count) × (count ≤ 26) ⌝ }
+    requires { ⌜ IsTable (now table) count ⌝ }
     ensures { λ r. ⌜ r ≡ readFields (entries count (now (table .entry))) (now (s .entry)) ⌝ }
 {
     let mut f = no_fields(true);
+    let mut next = 0;
     let mut i = 0;
     while i < s.len() {
         let e = place(s, i, 41);
         if s.len() <= e {
             return no_fields(false);
         }
-        let x = read_piece(table, count, &s[i..e]);
+        let x = read_piece(table, count, next, &s[i..e]);
         let c = column_in(x);
         if 26 <= c {
             return no_fields(false);
@@ -65,6 +64,7 @@ fn fields_in(table: &[u8], count: usize, s: &[u8]) -> Fields
         }
         f.columns[c] = number_in(x);
         f.seen[c] = true;
+        next = c + 1;
         i = e + 1;
     }
     f
@@ -80,10 +80,10 @@ fn no_fields(ok: bool) -> Fields
     }
 }
 
-// A space, an opening bracket and a field.
-fn read_piece(table: &[u8], count: usize, s: &[u8]) -> Field
-    requires { ⌜ (length (now table) ≡ 4 * count) × (count ≤ 26) ⌝ }
-    ensures { λ r. ⌜ r ≡ readPiece (entries count (now (table .entry))) (now (s .entry)) ⌝ }
+// A space, an opening bracket and a field whose column is from or behind it.
+fn read_piece(table: &[u8], count: usize, from: usize, s: &[u8]) -> Field
+    requires { ⌜ IsTable (now table) count ⌝ }
+    ensures { λ r. ⌜ r ≡ fieldFrom from (readPiece (entries count (now (table .entry))) (now (s .entry))) ⌝ }
 {
     if s.len() < 2 {
         return Field::NotAField;
@@ -94,17 +94,17 @@ fn read_piece(table: &[u8], count: usize, s: &[u8]) -> Field
     if s[1] != 40 {
         return Field::NotAField;
     }
-    read_field(table, count, &s[2..])
+    read_field(table, count, from, &s[2..])
 }
 
 // A name, a space and a number.
-fn read_field(table: &[u8], count: usize, s: &[u8]) -> Field
-    requires { ⌜ (length (now table) ≡ 4 * count) × (count ≤ 26) ⌝ }
-    ensures { λ r. ⌜ r ≡ readField (entries count (now (table .entry))) (now (s .entry)) ⌝ }
+fn read_field(table: &[u8], count: usize, from: usize, s: &[u8]) -> Field
+    requires { ⌜ IsTable (now table) count ⌝ }
+    ensures { λ r. ⌜ r ≡ fieldFrom from (readField (entries count (now (table .entry))) (now (s .entry))) ⌝ }
 {
     let k = place(s, 0, 32);
     if k < s.len() {
-        let c = find(table, count, &s[..k]);
+        let c = find(table, count, from, &s[..k]);
         let b = k + 1;
         let n = read_number(&s[b..]);
         return field_of(c, n);

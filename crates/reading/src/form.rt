@@ -5,7 +5,7 @@ ghost use lib.ListN.{length};
 ghost use Rattle.reading.specs.Text.{upTo, behind};
 ghost use Rattle.reading.specs.Number.{readNumber};
 ghost use Rattle.reading.specs.Form.{bare, noForm, receiveLine, settleFields, settleLine};
-ghost use Rattle.reading.specs.Form.{callOf, numberLine, settleRest, readForm, readLine};
+ghost use Rattle.reading.specs.Form.{callOf, numberLine, readFields, settleBy, formBy, readLine};
 use crate::bytes::place;
 use crate::bytes::same;
 use crate::fields::Fields;
@@ -51,7 +51,7 @@ pub fn read_line(s: &[u8]) -> Line
 
 // The part inside the outer bracket.
 fn read_form(t: &[u8]) -> Line
-    ensures { λ r. ⌜ r ≡ readForm (now (t .entry)) ⌝ }
+    ensures { λ r. ⌜ r ≡ formBy readFields (now (t .entry)) ⌝ }
 {
     let k = place(t, 0, 32);
     let w = &t[..k];
@@ -79,7 +79,7 @@ fn number_behind(t: &[u8], k: usize) -> Number
 // The settle form whose number stands behind the first space, at k.
 fn settle_behind(t: &[u8], k: usize) -> Line
     requires { ⌜ k ≡ 0 + length (upTo 32 (now t)) ⌝ }
-    ensures { λ r. ⌜ r ≡ settleRest (behind 32 (now (t .entry))) ⌝ }
+    ensures { λ r. ⌜ r ≡ settleBy readFields (behind 32 (now (t .entry))) ⌝ }
 {
     if k < t.len() {
         let b = k + 1;
@@ -89,7 +89,7 @@ fn settle_behind(t: &[u8], k: usize) -> Line
 }
 
 fn read_settle(u: &[u8]) -> Line
-    ensures { λ r. ⌜ r ≡ settleRest (now (u .entry)) ⌝ }
+    ensures { λ r. ⌜ r ≡ settleBy readFields (now (u .entry)) ⌝ }
 {
     let k = place(u, 0, 32);
     let n = read_number(&u[..k]);

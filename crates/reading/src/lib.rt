@@ -3,7 +3,7 @@
 //   bytes    comparing and searching
 //   number   decimal numbers
 //   names    the names of the columns
-//   fields   fields in brackets, each column at most once
+//   fields   fields in brackets, in the order of their columns
 //   form     a line: a call with its vectors, or no form
 mod bytes;
 mod fields;

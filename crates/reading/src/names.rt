@@ -3,7 +3,7 @@ ghost use mathlib.Core.Path.{_≡_};
 ghost use Prim.Native.Nat.{_+_, _*_, _≤_};
 ghost use lib.ListN.{length};
 ghost use Rattle.reading.specs.Text.{sameBytes};
-ghost use Rattle.reading.specs.Names.{entryAt, entries, columnFrom};
+ghost use Rattle.reading.specs.Names.{columnOf, fromColumn, entryAt, entries, IsTable};
 use crate::bytes::place;
 use crate::bytes::same;
 
@@ -19,12 +19,12 @@ pub enum Column {
     Unknown,
 }
 
-// The first of the table's names that is s.
-pub fn find(table: &[u8], count: usize, s: &[u8]) -> Column
-    requires { ⌜ (length (now table) ≡ 4 * count) × (count ≤ 26) ⌝ }
-    ensures { λ r. ⌜ r ≡ columnFrom 0 (entries count (now (table .entry))) (now (s .entry)) ⌝ }
+// The column of the name s, looked for at from and behind it.
+pub fn find(table: &[u8], count: usize, from: usize, s: &[u8]) -> Column
+    requires { ⌜ IsTable (now table) count ⌝ }
+    ensures { λ r. ⌜ r ≡ fromColumn from (columnOf (entries count (now (table .entry))) (now (s .entry))) ⌝ }
 {
-    let mut c = 0;
+    let mut c = from;
     while c < count {
         if is_entry(table, c, s) {
             return Column::At(c);

@@ -21,7 +21,7 @@ fn answer_word() {
             return;
         }
         if check::same(&word[..n], b"--version") {
-            write_all(b"sludgeline 0.7.0\n");
+            write_all(b"sludgeline 0.8.0\n");
             return;
         }
     }
@@ -55,7 +55,7 @@ usage: sludgeline < CALLS > ANSWERS    or --help, or --version\n\
 
 fn help_columns() -> bool {
     write_all(
-        b"F is (name N), each at most once; a missing column is zero. COD and oxygen in\n\
+        b"F is (name N), in the order below; a missing column is zero. COD and oxygen in\n\
 mg; sno snh snd xnd sin cn in ticks of 0.0001 mg N; salk sic in mmol.\n\
 receive: si ss xi xs xbh xba xp so sno snh snd xnd salk\n\
 settle: si ssu saa sfa sva sbu spro sac sh2 sch4 xi xc xch xpr xli xsu xaa xfa\n\

@@ -1,9 +1,13 @@
 //! The benchmark: `sludgeline` against `second` on one long session, with `wc -l`
 //! as the floor, and one feed and one recycle of the C library against those in Rust.
-//! The session and the feeds' records are those from before there was a recycle, so that
+//! The feeds' records are those from before there was a recycle, and the session is of the
+//! same kind as then but for its fields, which stand in the order of their columns, so that
 //! older figures can be held against new ones.
 //!
-//!     bench [--rounds N] [--megabytes N] [--program PATH]
+//!     bench [--rounds N] [--megabytes N] [--program PATH] [--before PATH]
+//!
+//! `--before` names an earlier build of `sludgeline`, which is timed on the session in turn with
+//! the others.
 //!
 //! Here: the options, the session file, the timed programs, the timed feeds and recycles.
 
@@ -27,6 +31,7 @@ struct Options {
     rounds: usize,
     megabytes: usize,
     program: PathBuf,
+    before: Option<PathBuf>,
 }
 
 /// Reads the options; their defaults are 7 rounds over 52 MB.
@@ -35,6 +40,7 @@ fn options() -> Result<Options, String> {
         rounds: 7,
         megabytes: 52,
         program: PathBuf::from(concat!(env!("CARGO_MANIFEST_DIR"), "/../target/bin/sludgeline")),
+        before: None,
     };
     let mut words = std::env::args().skip(1);
     while let Some(word) = words.next() {
@@ -44,6 +50,7 @@ fn options() -> Result<Options, String> {
             "--rounds" => options.rounds = number()?,
             "--megabytes" => options.megabytes = number()?,
             "--program" => options.program = PathBuf::from(&value),
+            "--before" => options.before = Some(PathBuf::from(&value)),
             _ => return Err(format!("{word}: unknown")),
         }
     }
@@ -138,6 +145,13 @@ fn printed(program: &Path, session: &Path) -> Result<Vec<u8>, String> {
     output.map(|output| output.stdout).map_err(|error| format!("{}: {error}", program.display()))
 }
 
+/// Whether two programs print the same for the session file; prints it, too.
+fn print_alike(what: &str, programs: &[PathBuf], session: &Path) -> Result<bool, String> {
+    let alike = printed(&programs[0], session)? == printed(&programs[1], session)?;
+    println!("{what}: {}", if alike { "yes" } else { "NO" });
+    Ok(alike)
+}
+
 /// The middle one of these times, and the least.
 fn median_and_least(mut times: Vec<f64>) -> (f64, f64) {
     times.sort_by(f64::total_cmp);
@@ -166,19 +180,24 @@ fn bench_programs(options: &Options) -> Result<(), String> {
     let path = Path::new(env!("CARGO_MANIFEST_DIR")).join("target/bench.session");
     std::fs::write(&path, &session.bytes).map_err(|error| error.to_string())?;
     let own = std::env::current_exe().map_err(|error| error.to_string())?.with_file_name("second");
-    let programs = [options.program.clone(), own, PathBuf::from("wc")];
+    let mut programs = vec![options.program.clone(), own, PathBuf::from("wc")];
+    programs.extend(options.before.clone());
     println!("session of seed {SEED}: {bytes} bytes, {lines} lines, {} refused", session.refused);
     println!("input from the file {}, output to /dev/null", path.display());
     println!("buffers: second zeroes its two 64 KiB buffers once at start and never clears them;");
     println!("  sludgeline's buffers are zeroed once at start");
-    let alike = printed(&programs[0], &path)? == printed(&programs[1], &path)?;
-    println!("both print the same: {}", if alike { "yes" } else { "NO" });
+    let alike = print_alike("both print the same", &programs[..2], &path)?;
+    if let Some(before) = &options.before {
+        let earlier = [programs[0].clone(), before.clone()];
+        print_alike("the earlier build prints the same", &earlier, &path)?;
+    }
     let results = rounds(&programs, &path, options.rounds)?;
     println!(
         "{} rounds, in turn     median s     least s  lines/s (median)  ns/line",
         options.rounds
     );
-    for (name, (median, least)) in ["sludgeline", "second", "wc -l"].iter().zip(&results) {
+    let names = ["sludgeline", "second", "wc -l", "earlier sludgeline"];
+    for (name, (median, least)) in names.iter().zip(&results) {
         let (rate, each) = (lines / median, median / lines * 1e9);
         println!("  {name:<20} {median:>8.3}    {least:>8.3}  {rate:>16.0} {each:>8.1}");
     }

@@ -16,7 +16,7 @@ const WORDS: [&str; 14] = [
 ];
 
 /// Words near the sixth form's. They stand apart from `WORDS`, so that the benchmark's session,
-/// which `damage` has a part in, is the same as before there was a sixth form.
+/// which `damage` has a part in, stays of the kind that it was before there was a sixth form.
 const NEAR_RECYCLE: [&str; 9] = [
     "recycle",
     "recycl",

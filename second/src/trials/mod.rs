@@ -4,12 +4,14 @@
 //! - `edges`: vectors and records at the points where the rules branch;
 //! - `proposals`: settles that close or just do not, and proposals to be closed;
 //! - `damage`: lines that are no forms any more, or nearly not;
+//! - `order`: lines whose fields stand in another order than their columns;
 //! - here: a call written as a line, and the choice of the next record, line, call and
 //!   vector.
 
 pub mod amounts;
 pub mod damage;
 pub mod edges;
+pub mod order;
 pub mod proposals;
 
 use crate::plant::{Call, Plant};
@@ -38,7 +40,7 @@ pub struct Trial {
     steps: VecDeque<Step>,
 }
 
-/// Writes a call as a line, its fields in any order and its zeros now and then.
+/// Writes a call as a line, its fields in the order of their columns and its zeros now and then.
 pub fn form(random: &mut Random, call: &Call) -> Vec<u8> {
     let mut line = Vec::new();
     let written = match call {
@@ -61,15 +63,11 @@ pub fn form(random: &mut Random, call: &Call) -> Vec<u8> {
     line
 }
 
-/// Writes the fields of a vector.
+/// Writes the fields of a vector in the order of its columns.
 fn write_fields(random: &mut Random, names: &[&str], v: &[u64], line: &mut Vec<u8>) {
     let zeros = random.percent(10);
-    let mut order: Vec<usize> = (0..v.len()).collect();
-    if random.percent(50) {
-        random.shuffle(&mut order);
-    }
-    for column in order.into_iter().filter(|&column| zeros || v[column] > 0) {
-        line.extend_from_slice(format!(" ({} {})", names[column], v[column]).as_bytes());
+    for (name, number) in names.iter().zip(v).filter(|(_, &number)| zeros || number > 0) {
+        line.extend_from_slice(format!(" ({name} {number})").as_bytes());
     }
 }
 
@@ -119,13 +117,17 @@ impl Trial {
         plant
     }
 
-    /// The next line for this record, without its newline.
+    /// The next line for this record, without its newline. Of those with two fields or more
+    /// one in eight has them out of order.
     pub fn line(&mut self, plant: &Plant) -> Vec<u8> {
         if self.random.percent(4) {
             return damage::junk(&mut self.random);
         }
         let call = self.call(plant);
         let mut line = form(&mut self.random, &call);
+        if self.random.below(8) == 0 && order::disorder(&mut self.random, &mut line) {
+            return line;
+        }
         match self.random.below(100) {
             0..=14 => damage::damage(&mut self.random, &mut line),
             15 => damage::near_recycle(&mut self.random, &mut line),

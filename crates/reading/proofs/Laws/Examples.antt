@@ -3,7 +3,8 @@ use mathlib.Core.Path.{refl}
 use Rattle.reading.specs.Text.{sameBytes, lookUp, upTo, behind, onFirst, pieces}
 use Rattle.reading.specs.Number.{allDigits, valueAfter, leads, readAfter, readNumber}
 use Rattle.reading.specs.Names.{columnFrom}
-use Rattle.reading.specs.Form.{readField, readPiece, addField, readPieces, settleRest, formOf, inBrackets, readLine}
+use Rattle.reading.specs.Form.{readField, readPiece, addField, readPieces, named, rises}
+use Rattle.reading.specs.Form.{settleBy, formOf, inBrackets, readLine}
 use Rattle.reading.specs.Examples.{ExamplesHold}
 
 infixr 20 _also_
@@ -11,7 +12,8 @@ _also_ : {A B : Type 0} → A → B → A × B
 a also b = (a, b)
 
 pub examples-hold : ExamplesHold
-unfolding sameBytes lookUp upTo behind onFirst pieces allDigits valueAfter leads readAfter readNumber columnFrom readField readPiece addField readPieces settleRest formOf inBrackets readLine
+unfolding sameBytes lookUp upTo behind onFirst pieces allDigits valueAfter leads readAfter readNumber columnFrom
+    readField readPiece addField readPieces named rises settleBy formOf inBrackets readLine
 examples-hold =
     refl also refl also refl also refl also refl also refl also refl also refl also refl also refl also refl also refl also refl
     also
@@ -19,4 +21,6 @@ examples-hold =
     also
     refl also refl also refl also refl also refl also refl also refl also refl also refl also refl also refl also refl also refl
     also
-    refl also refl also refl also refl also refl also refl also refl also refl also refl also refl also refl also refl also tt
+    refl also refl also refl also refl also refl also refl also refl also refl also refl also refl also refl also refl also refl
+    also
+    refl also refl also refl also refl also refl also refl also tt

@@ -1,12 +1,14 @@
 -- Laws of fields and forms. Assumes nothing.
 --
---   field-split, field-none                     a field, by the place of its space
+--   field-split, field-none                     a field of column n or behind it, by the place of its space
 --   piece-..                                    a field behind a space and a bracket
---   add-none, add-again, add-first, add-marked              a further field: none, one whose column was named, one that is the first
---   fields-unclosed, fields-go, fields-stop, fields-end   one turn of a loop over fields
+--   add-none, add-again, add-first, add-marked  a further field: none, one whose column was named, one that is the first
+--   left                                        what is left to read in a loop over fields
+--   left-unclosed, left-go, left-stop, left-end one turn of that loop
 --   form-receive, form-settle, form-number, ..  a form, by the place of its first space
 --   line-..                                     a whole line
-use mathlib.Core.Bool.{Bool, true, false, cond, and-false}
+--   order-law                                   a line in order is read as before, and any other is no form
+use mathlib.Core.Bool.{Bool, true, false, cond, _&&_, and-false}
 use mathlib.Core.List.{List, [], _∷_}
 use mathlib.Core.Path.{_≡_, refl, sym, ap, ap₂, _∙_}
 use Prim.Native.Nat.{ℕ, suc, _+_, _-_, _≤_, _<_}
@@ -18,7 +20,7 @@ use lib.ListN.{length, take, drop, getD, set, drop-of-length-le, length-drop}
 use lib.Seq.{drop-drop, take-nil}
 use borrow.Author.Tests.{eq-eqb, ne-eqb, le-leb, lt-leb, le-ltb, lt-ltb}
 use Rattle.reading.specs.declared.number.Number.{Number}
-use Rattle.reading.specs.declared.number.Number.the-variants.{NotANumber}
+use Rattle.reading.specs.declared.number.Number.the-variants.{Value, NotANumber}
 use Rattle.reading.specs.declared.names.Column.{Column}
 use Rattle.reading.specs.declared.names.Column.the-variants.{At, Unknown}
 use Rattle.reading.specs.declared.names.Vector.the-variants.{Sludge, Digester}
@@ -28,34 +30,51 @@ use Rattle.reading.specs.declared.fields.Field.the-variants.{Of, NotAFie
 use Rattle.reading.specs.declared.fields.Fields.{Fields}
 use Rattle.reading.specs.Text.{ascii, sameBytes, upTo, behind, pieces}
 use Rattle.reading.specs.Number.{readNumber}
-use Rattle.reading.specs.Names.{namesOf, columnOf}
+use Rattle.reading.specs.Names.{namesOf, columnOf, fromColumn}
 use Rattle.reading.specs.Form.{fieldOf, readField, readPiece, noFields, addField, columnIn, numberIn, atEnd, whenOk}
-use Rattle.reading.specs.Form.{readPieces, readFields, noForm, receiveLine, settleLine, settleRest, numberLine}
-use Rattle.reading.specs.Form.{formOf, readForm, inBrackets, readLine}
+use Rattle.reading.specs.Form.{readPieces, anyFields, named, rises, inOrder, readFields, fieldFrom}
+use Rattle.reading.specs.Form.{noForm, receiveLine, settleFields, settleLine, numberLine}
+use Rattle.reading.specs.Form.{settlePart, settleBy, formOf, formBy, inBrackets, inner, readLine}
+use Rattle.reading.specs.Form.{formOrdered, ordered, OrderLaw}
 use Rattle.reading.proofs.Laws.Text.{rest-of, upTo-place, behind-drop, pieces-cut, pieces-last, pieces-some}
 use Rattle.reading.proofs.Laws.Number.{number-empty}
 
--- ---- one field, where k is the place of its space
+-- ---- one field
 
-module _ (names : List (List ℕ)) (s : List ℕ) (k : ℕ) (e : k ≡ 0 + length (upTo 32 s)) where
+no-number : (c : Column) → fieldOf c NotANumber ≡ NotAField
+no-number (At c) = refl
+no-number Unknown = refl
+
+-- its column is n or behind it
+field-from : (n : ℕ) (c : Column) (k : Number) → fieldOf (fromColumn n c) k ≡ fieldFrom n (fieldOf c k)
+field-from n Unknown k = refl
+field-from n (At c) (Value k) = go (leb n c)
+  where
+    go : (b : Bool) → fieldOf (cond b (At c) Unknown) (Value k) ≡ cond b (Of c k) NotAField
+    go true = refl
+    go false = refl
+field-from n (At c) NotANumber = no-number (fromColumn n (At c))
+
+-- where k is the place of its space
+module _ (names : List (List ℕ)) (n : ℕ) (s : List ℕ) (k : ℕ) (e : k ≡ 0 + length (upTo 32 s)) where
   number-part : drop (k + 1) s ≡ behind 32 s
   number-part = ap (λ (j : ℕ). drop j s) (add-one k ∙ ap suc (e ∙ zero-add (length (upTo 32 s)))) ∙ behind-drop 32 s
 
-  pub field-split : fieldOf (columnOf names (take k s)) (readNumber (take (length s - (k + 1)) (drop (k + 1) s))) ≡ readField names s
+  pub field-split : fieldOf (fromColumn n (columnOf names (take k s))) (readNumber (take (length s - (k + 1)) (drop (k + 1) s)))
+      ≡ fieldFrom n (readField names s)
   unfolding readField
-  field-split = ap₂ (λ (x y : List ℕ). fieldOf (columnOf names x) (readNumber y)) (upTo-place 32 s k e) (rest-of s (k + 1) ∙ number-part)
+  field-split =
+      ap₂ (λ (x y : List ℕ). fieldOf (fromColumn n (columnOf names x)) (readNumber y))
+      (upTo-place 32 s k e) (rest-of s (k + 1) ∙ number-part)
+      ∙ field-from n (columnOf names (upTo 32 s)) (readNumber (behind 32 s))
 
-  no-number : (c : Column) → fieldOf c NotANumber ≡ NotAField
-  no-number (At c) = refl
-  no-number Unknown = refl
-
-  pub field-none : length s ≤ k → NotAField ≡ readField names s
+  pub field-none : length s ≤ k → NotAField ≡ fieldFrom n (readField names s)
   unfolding readField
   field-none h =
       sym
-      (ap (λ (n : Number). fieldOf (columnOf names (upTo 32 s)) n)
+      (ap (λ (m : Number). fieldFrom n (fieldOf (columnOf names (upTo 32 s)) m))
       (ap readNumber (sym number-part ∙ drop-of-length-le s {i = k + 1} (omega arith)) ∙ number-empty [] refl)
-      ∙ no-number (columnOf names (upTo 32 s)))
+      ∙ ap (fieldFrom n) (no-number (columnOf names (upTo 32 s))))
 
 -- ---- a space, an opening bracket and a field
 
@@ -86,59 +105,96 @@ module _ (names : List (List ℕ)) where
 
 -- ---- a further field, by its column
 
+-- f with the number n in column c, which was not named before
+abbrev put : Fields → ℕ → ℕ → Fields
+put f c n = record { ok = true; columns = set (f .columns) c n; seen = set (f .seen) c true }
+
 pub add-none : (f : Fields) (x : Field) → 26 ≤ columnIn x → addField f x ≡ noFields false
 unfolding addField
-add-none f (Of c n) h = ap (λ (t : Bool). cond t (cond (getD (f .seen) c false) (noFields false) (record { ok = true; columns = set (f .columns) c n; seen = set (f .seen) c true })) (noFields false)) (le-ltb c 26 h)
+add-none f (Of c n) h = rw (le-ltb c 26 h)
 add-none f NotAField h = refl
 
 pub add-again : (f : Fields) (x : Field) → getD (f .seen) (columnIn x) false ≡ true → addField f x ≡ noFields false
 unfolding addField
 add-again f (Of c n) e = go (ltb c 26)
   where
-    go : (t : Bool) → cond t (cond (getD (f .seen) c false) (noFields false) (record { ok = true; columns = set (f .columns) c n; seen = set (f .seen) c true })) (noFields false) ≡ noFields false
-    go true = ap (λ (t : Bool). cond t (noFields false) (record { ok = true; columns = set (f .columns) c n; seen = set (f .seen) c true })) e
+    go : (t : Bool) → cond t (cond (getD (f .seen) c false) (noFields false) (put f c n)) (noFields false) ≡ noFields false
+    go true = rw e
     go false = refl
 add-again f NotAField e = refl
 
 pub add-first : (f : Fields) (x : Field) → columnIn x < 26 → getD (f .seen) (columnIn x) false ≡ false
-    → addField f x ≡ record { ok = true; columns = set (f .columns) (columnIn x) (numberIn x); seen = set (f .seen) (columnIn x) true }
+    → addField f x ≡ put f (columnIn x) (numberIn x)
 unfolding addField
 add-first f (Of c n) h e = simp (lt-ltb c 26 h, e)
 add-first f NotAField h e = absurd (omega arith)
 
 -- the same in place, where c is the column and n the number
-pub add-marked : (f : Fields) (x : Field) {c n : ℕ} → f .ok ≡ true → c ≡ columnIn x → n ≡ numberIn x → c < 26 → getD (f .seen) c false ≡ false
+pub add-marked : (f : Fields) (x : Field) {c n : ℕ}
+    → f .ok ≡ true → c ≡ columnIn x → n ≡ numberIn x → c < 26 → getD (f .seen) c false ≡ false
     → record { ok = f .ok; columns = set (f .columns) c n; seen = set (f .seen) c true } ≡ addField f x
 add-marked f x o p q h e =
     (λ i. record { ok = o i; columns = set (f .columns) (p i) (q i); seen = set (f .seen) (p i) true })
     ∙ sym (add-first f x (omega (arith, p, h)) (ap (λ (j : ℕ). getD (f .seen) j false) (sym p) ∙ e))
 
--- ---- a loop over the fields of s, at i, with f so far
+-- ---- a loop over the fields of s, at i, with f so far and the next column n
 
-read-step : (names : List (List ℕ)) (f : Fields) (p : List ℕ) (ps : List (List ℕ)) → 0 < length ps
-    → readPieces names f (p ∷ ps) ≡ whenOk (addField f (readPiece names p) .ok) (readPieces names (addField f (readPiece names p)) ps)
-unfolding readPieces
-read-step names f p [] h = absurd (omega arith)
-read-step names f p (q ∷ ps) h = refl
+-- what is left to read
+abbrev pub left : List (List ℕ) → ℕ → Fields → List (List ℕ) → Fields
+left names n f ps = whenOk (rises n (named names ps)) (readPieces names f ps)
 
-module _ (names : List (List ℕ)) (f : Fields) (s : List ℕ) (i : ℕ) where
+when-swap : (a b : Bool) (f : Fields) → whenOk a (whenOk b f) ≡ whenOk b (whenOk a f)
+when-swap true b f = refl
+when-swap false true f = refl
+when-swap false false f = refl
+
+-- nothing is read behind what is no field or steps back
+left-case : (n : ℕ) (x : Field) (r : ℕ → Bool) (f : Fields) (g : Fields → Fields)
+    → whenOk (leb n (columnIn x) && r (columnIn x + 1)) (whenOk (addField f x .ok) (g (addField f x)))
+    ≡ whenOk (addField f (fieldFrom n x) .ok) (whenOk (r (columnIn (fieldFrom n x) + 1)) (g (addField f (fieldFrom n x))))
+unfolding addField
+left-case n NotAField r f g = when-swap (leb n 26 && r 27) false (noFields true)
+left-case n (Of c k) r f g = go (leb n c)
+  where
+    go : (b : Bool)
+        → whenOk (b && r (c + 1)) (whenOk (addField f (Of c k) .ok) (g (addField f (Of c k))))
+        ≡ whenOk (addField f (cond b (Of c k) NotAField) .ok)
+        (whenOk (r (columnIn (cond b (Of c k) NotAField) + 1)) (g (addField f (cond b (Of c k) NotAField))))
+    go true = when-swap (r (c + 1)) (addField f (Of c k) .ok) (g (addField f (Of c k)))
+    go false = refl
+
+left-step : (names : List (List ℕ)) (n : ℕ) (f : Fields) (p : List ℕ) (ps : List (List ℕ)) → 0 < length ps
+    → left names n f (p ∷ ps)
+    ≡ (let x = fieldFrom n (readPiece names p) in whenOk (addField f x .ok) (left names (columnIn x + 1) (addField f x) ps))
+unfolding readPieces named rises
+left-step names n f p [] h = absurd (omega arith)
+left-step names n f p (q ∷ ps) h =
+    left-case n (readPiece names p) (λ (m : ℕ). rises m (named names (q ∷ ps))) f (λ (g : Fields). readPieces names g (q ∷ ps))
+
+module _ (names : List (List ℕ)) (n : ℕ) (f : Fields) (s : List ℕ) (i : ℕ) where
   not-empty : (t : List ℕ) → 0 < length t → atEnd f t ≡ noFields false
   not-empty [] h = absurd (omega arith)
   not-empty (c ∷ t) h = refl
 
-  pub fields-unclosed : i < length s → length s ≤ i + length (upTo 41 (drop i s)) → readPieces names f (pieces 41 (drop i s)) ≡ noFields false
-  unfolding readPieces
-  fields-unclosed h k =
-      ap (readPieces names f) (pieces-last 41 (drop i s) (omega (arith, length-drop i s))) ∙ not-empty (drop i s) (omega (arith, length-drop i s))
+  -- a last piece is not followed by another
+  pub left-unclosed : i < length s → length s ≤ i + length (upTo 41 (drop i s)) → left names n f (pieces 41 (drop i s)) ≡ noFields false
+  unfolding readPieces named rises
+  left-unclosed h k =
+      ap (left names n f) (pieces-last 41 (drop i s) (omega (arith, length-drop i s)))
+      ∙ not-empty (drop i s) (omega (arith, length-drop i s))
 
-  pub fields-end : length s ≤ i → readPieces names f (pieces 41 (drop i s)) ≡ f
-  unfolding readPieces pieces
-  fields-end h = simp (drop-of-length-le s h)
+  pub left-end : length s ≤ i → left names n f (pieces 41 (drop i s)) ≡ f
+  unfolding readPieces pieces named rises
+  left-end h = simp (drop-of-length-le s h)
 
-  -- where e is the place of the next closing bracket, and g is f with the field before it
-  module _ (e : ℕ) (q : e ≡ i + length (upTo 41 (drop i s))) (h : e < length s) (x : Field) (p : x ≡ readPiece names (take (e - i) (drop i s))) (g : Fields) (r : g ≡ addField f x) where
+  -- where e is the place of the next closing bracket, x the field before it, and g is f with it
+  module _ (e : ℕ) (q : e ≡ i + length (upTo 41 (drop i s))) (h : e < length s)
+      (x : Field) (p : x ≡ fieldFrom n (readPiece names (take (e - i) (drop i s)))) (g : Fields) (r : g ≡ addField f x) where
     piece-at : take (e - i) (drop i s) ≡ upTo 41 (drop i s)
     piece-at = upTo-place 41 (drop i s) (e - i) (omega arith)
+
+    field-at : fieldFrom n (readPiece names (upTo 41 (drop i s))) ≡ x
+    field-at = sym (p ∙ ap (λ (t : List ℕ). fieldFrom n (readPiece names t)) piece-at)
 
     rest-at : drop (e + 1) s ≡ behind 41 (drop i s)
     rest-at =
@@ -147,21 +203,22 @@ module _ (names : List (List ℕ)) (f : Fields) (s : List ℕ) (i : ℕ) where
         place : e + 1 ≡ i + suc (length (upTo 41 (drop i s)))
         place = omega arith
 
-    stepped : readPieces names f (pieces 41 (drop i s)) ≡ whenOk (g .ok) (readPieces names g (pieces 41 (drop (e + 1) s)))
-    stepped =
-        ap (readPieces names f) (pieces-cut 41 (drop i s) (omega (arith, length-drop i s)))
-        ∙ read-step names f (upTo 41 (drop i s)) (pieces 41 (behind 41 (drop i s))) (pieces-some 41 (behind 41 (drop i s)))
-        ∙ ap₂ (λ (y : Fields) (t : List ℕ). whenOk (y .ok) (readPieces names y (pieces 41 t)))
-        (sym (r ∙ ap (addField f) (p ∙ ap (readPiece names) piece-at))) (sym rest-at)
+    left-next : left names n f (pieces 41 (drop i s)) ≡ whenOk (g .ok) (left names (columnIn x + 1) g (pieces 41 (drop (e + 1) s)))
+    left-next =
+        ap (left names n f) (pieces-cut 41 (drop i s) (omega (arith, length-drop i s)))
+        ∙ left-step names n f (upTo 41 (drop i s)) (pieces 41 (behind 41 (drop i s))) (pieces-some 41 (behind 41 (drop i s)))
+        ∙ ap₂ (λ (y : Field) (t : List ℕ). whenOk (addField f y .ok) (left names (columnIn y + 1) (addField f y) (pieces 41 t)))
+        field-at (sym rest-at)
+        ∙ ap (λ (y : Fields). whenOk (y .ok) (left names (columnIn x + 1) y (pieces 41 (drop (e + 1) s)))) (sym r)
 
-    pub fields-go : g .ok ≡ true → readPieces names f (pieces 41 (drop i s)) ≡ readPieces names g (pieces 41 (drop (e + 1) s))
-    fields-go o = stepped ∙ ap (λ (b : Bool). whenOk b (readPieces names g (pieces 41 (drop (e + 1) s)))) o
+    pub left-go : g .ok ≡ true → left names n f (pieces 41 (drop i s)) ≡ left names (columnIn x + 1) g (pieces 41 (drop (e + 1) s))
+    left-go o = left-next ∙ ap (λ (b : Bool). whenOk b (left names (columnIn x + 1) g (pieces 41 (drop (e + 1) s)))) o
 
-    pub fields-stop : g .ok ≡ false → readPieces names f (pieces 41 (drop i s)) ≡ noFields false
-    fields-stop o = stepped ∙ ap (λ (b : Bool). whenOk b (readPieces names g (pieces 41 (drop (e + 1) s)))) o
+    pub left-stop : g .ok ≡ false → left names n f (pieces 41 (drop i s)) ≡ noFields false
+    left-stop o = left-next ∙ ap (λ (b : Bool). whenOk b (left names (columnIn x + 1) g (pieces 41 (drop (e + 1) s)))) o
 
-settle-empty : settleRest [] ≡ noForm
-unfolding settleRest upTo
+settle-empty : settleBy readFields [] ≡ noForm
+unfolding settleBy upTo
 settle-empty = ap (λ (n : Number). settleLine n (readFields (namesOf Digester) [])) (number-empty [] refl)
 
 -- ---- a form, where k is the place of its first space
@@ -182,11 +239,12 @@ module _ (t : List ℕ) (k : ℕ) (e : k ≡ 0 + length (upTo 32 t)) where
   pub number-none : length t ≤ k → NotANumber ≡ readNumber (behind 32 t)
   number-none h = sym (ap readNumber (nothing-behind h) ∙ number-empty [] refl)
 
-  pub settle-none : length t ≤ k → noForm ≡ settleRest (behind 32 t)
-  settle-none h = sym (ap settleRest (nothing-behind h) ∙ settle-empty)
+  pub settle-none : length t ≤ k → noForm ≡ settleBy readFields (behind 32 t)
+  settle-none h = sym (ap (settleBy readFields) (nothing-behind h) ∙ settle-empty)
 
-  pub settle-split : settleLine (readNumber (take k t)) (readFields (namesOf Digester) (take (length t - k) (drop k t))) ≡ settleRest t
-  unfolding settleRest
+  pub settle-split : settleLine (readNumber (take k t)) (readFields (namesOf Digester) (take (length t - k) (drop k t)))
+      ≡ settleBy readFields t
+  unfolding settleBy
   settle-split = ap₂ (λ (x y : List ℕ). settleLine (readNumber x) (readFields (namesOf Digester) y)) (upTo-place 32 t k e) rest-part
 
   -- a word test of the code is one of the definition
@@ -194,17 +252,17 @@ module _ (t : List ℕ) (k : ℕ) (e : k ≡ 0 + length (upTo 32 t)) where
   word-is w h = ap (λ (x : List ℕ). sameBytes x w) (sym (upTo-place 32 t k e)) ∙ h
 
   pub form-receive : sameBytes (take k t) (ascii "receive") ≡ true
-      → receiveLine (readFields (namesOf Sludge) (take (length t - k) (drop k t))) ≡ readForm t
+      → receiveLine (readFields (namesOf Sludge) (take (length t - k) (drop k t))) ≡ formBy readFields t
   unfolding formOf
   form-receive h = rw (word-is _ h) (ap (λ (x : List ℕ). receiveLine (readFields (namesOf Sludge) x)) rest-part)
 
   pub form-settle : sameBytes (take k t) (ascii "receive") ≡ false → sameBytes (take k t) (ascii "settle") ≡ true
-      → settleRest (behind 32 t) ≡ readForm t
+      → settleBy readFields (behind 32 t) ≡ formBy readFields t
   unfolding formOf
   form-settle h i = rw (word-is _ h, word-is _ i)
 
   pub form-number : sameBytes (take k t) (ascii "receive") ≡ false → sameBytes (take k t) (ascii "settle") ≡ false
-      → numberLine (take k t) (readNumber (behind 32 t)) ≡ readForm t
+      → numberLine (take k t) (readNumber (behind 32 t)) ≡ formBy readFields t
   unfolding formOf
   form-number h i = rw (word-is _ h, word-is _ i) (ap (λ (x : List ℕ). numberLine x (readNumber (behind 32 t))) (upTo-place 32 t k e))
 
@@ -231,7 +289,49 @@ module _ (s : List ℕ) where
   line-closes h = simp (ne-eqb (getD s (length s - 1) 0) 41 h, and-false)
 
   pub line-form : 2 ≤ length s → length s ≤ 1024 → getD s 0 0 ≡ 40 → getD s (length s - 1) 0 ≡ 41
-      → readForm (take (length s - 1 - 1) (drop 1 s)) ≡ readLine s
+      → formBy readFields (inner s) ≡ readLine s
   unfolding readLine inBrackets
   line-form h k a b =
       simp (le-leb 2 (length s) h, le-leb (length s) 1024 k, eq-eqb (getD s 0 0) 40 a, eq-eqb (getD s (length s - 1) 0) 41 b)
+
+-- ---- the order of the fields
+
+-- a line of fields that are read only where they are in order
+receive-when : (b : Bool) (f : Fields) → receiveLine (whenOk b f) ≡ cond b (receiveLine f) noForm
+receive-when true f = refl
+receive-when false f = refl
+
+settle-when : (b : Bool) (n : Number) (f : Fields) → settleLine n (whenOk b f) ≡ cond b (settleLine n f) noForm
+settle-when true n f = refl
+settle-when false (Value g) f = refl
+settle-when false NotANumber f = refl
+
+-- the three kinds of form: with the tests of their words as they are
+form-ordered : (w t : List ℕ) → formOf readFields w t ≡ cond (formOrdered w t) (formOf anyFields w t) noForm
+unfolding formOf formOrdered settleBy
+form-ordered w t = go (sameBytes w (ascii "receive")) (sameBytes w (ascii "settle"))
+  where
+    go : (a b : Bool)
+        → cond a (receiveLine (readFields (namesOf Sludge) (drop (length w) t)))
+        (cond b (settleBy readFields (behind 32 t)) (numberLine w (readNumber (behind 32 t))))
+        ≡ cond
+        (cond a (inOrder (namesOf Sludge) (drop (length w) t)) (cond b (inOrder (namesOf Digester) (settlePart (behind 32 t))) true))
+        (cond a (receiveLine (anyFields (namesOf Sludge) (drop (length w) t)))
+        (cond b (settleBy anyFields (behind 32 t)) (numberLine w (readNumber (behind 32 t)))))
+        noForm
+    go true b = receive-when (inOrder (namesOf Sludge) (drop (length w) t)) (anyFields (namesOf Sludge) (drop (length w) t))
+    go false true =
+        settle-when (inOrder (namesOf Digester) (settlePart (behind 32 t))) (readNumber (upTo 32 (behind 32 t)))
+        (anyFields (namesOf Digester) (settlePart (behind 32 t)))
+    go false false = refl
+
+bracket-case : (b o : Bool) (x : Line) → cond b (cond o x noForm) noForm ≡ cond o (cond b x noForm) noForm
+bracket-case true o x = refl
+bracket-case false true x = refl
+bracket-case false false x = refl
+
+pub order-law : OrderLaw
+unfolding readLine
+order-law s =
+    ap (λ (l : Line). cond (inBrackets s) l noForm) (form-ordered (upTo 32 (inner s)) (inner s))
+    ∙ bracket-case (inBrackets s) (ordered s) (formBy anyFields (inner s))

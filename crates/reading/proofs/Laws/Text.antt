@@ -7,9 +7,9 @@
 --   upTo-take, upTo-place, upTo-length, behind-drop   what a search has found, by its place
 --   rest-of                         a part of a slice that goes to its end
 --   pieces-cut, pieces-last, pieces-some  cutting behind each b
-use mathlib.Core.Bool.{Bool, true, false, cond, and-false}
+use mathlib.Core.Bool.{Bool, true, false, cond, and-false, false≢true}
 use mathlib.Core.List.{List, [], _∷_}
-use mathlib.Core.Path.{_≡_, refl, sym, ap, _∙_}
+use mathlib.Core.Path.{_≡_, refl, sym, ap, ap₂, _∙_}
 use Prim.Native.Nat.{ℕ, suc, _+_, _-_, _≤_, _<_}
 use native.Mathlib.Nat.{zero-add}
 use native.Mathlib.Numerals.{add-one}
@@ -17,7 +17,8 @@ use native.Mathlib.Omega.{arith}
 use lib.Dec.{eqb}
 use lib.ListN.{length, take, drop, getD, drop-of-length-le, length-drop}
 use lib.Seq.{drop-cons, take-all}
-use borrow.Author.Tests.{eq-eqb, ne-eqb}
+use borrow.Author.Tests.{eq-eqb, ne-eqb, eqb-true}
+use Rattle.vectors.proofs.Laws.Columns.{both-true}
 use Rattle.reading.specs.Text.{ascii, sameBytes, Word, lookUp, upTo, behind, onFirst, pieces}
 
 pub head-at : {A : Type 0} (s : List A) (d : A) (i : ℕ) → i < length s → drop i s ≡ getD s i d ∷ drop (i + 1) s
@@ -35,8 +36,19 @@ same-lengths [] (b ∷ t) h = refl
 same-lengths (a ∷ s) [] h = refl
 same-lengths (a ∷ s) (b ∷ t) h = simp (same-lengths s t (λ e. h (ap suc e)), and-false)
 
+-- what is tested as the same is the same
+pub same-equal : (s t : List ℕ) → sameBytes s t ≡ true → s ≡ t
+unfolding sameBytes
+same-equal [] [] e = refl
+same-equal [] (b ∷ t) e = absurd (false≢true e)
+same-equal (a ∷ s) [] e = absurd (false≢true e)
+same-equal (a ∷ s) (b ∷ t) e =
+    let both = both-true (eqb a b) (sameBytes s t) e in
+    ap₂ (λ (x : ℕ) (l : List ℕ). x ∷ l) (eqb-true a b (both .0)) (same-equal s t (both .1))
+
 module _ (s t : List ℕ) (i : ℕ) where
-  pub same-step : i < length s → i < length t → getD s i 0 ≡ getD t i 0 → sameBytes (drop i s) (drop i t) ≡ sameBytes (drop (i + 1) s) (drop (i + 1) t)
+  pub same-step : i < length s → i < length t → getD s i 0 ≡ getD t i 0
+      → sameBytes (drop i s) (drop i t) ≡ sameBytes (drop (i + 1) s) (drop (i + 1) t)
   unfolding sameBytes
   same-step h k e = simp (head-at s 0 i h, head-at t 0 i k, eq-eqb (getD s i 0) (getD t i 0) e)
 
@@ -111,7 +123,8 @@ behind-drop b (c ∷ s) = drop-case (eqb c b) c (upTo b s) s (behind b s) (behin
 
 -- ---- cutting
 
-cut-case : (t : Bool) (c : ℕ) (u s r : List ℕ) (f : List ℕ → List (List ℕ)) (ps : List (List ℕ)) → f s ≡ ps → (length u < length s → ps ≡ u ∷ f r)
+cut-case : (t : Bool) (c : ℕ) (u s r : List ℕ) (f : List ℕ → List (List ℕ)) (ps : List (List ℕ))
+    → f s ≡ ps → (length u < length s → ps ≡ u ∷ f r)
     → length (cond t [] (c ∷ u)) < length (c ∷ s) → cond t ([] ∷ ps) (onFirst c ps) ≡ cond t [] (c ∷ u) ∷ f (cond t s r)
 unfolding onFirst
 cut-case true c u s r f ps q e h = ap (λ (l : List (List ℕ)). [] ∷ l) (sym q)
@@ -122,7 +135,8 @@ unfolding upTo behind pieces
 pieces-cut b [] h = absurd (omega arith)
 pieces-cut b (c ∷ s) h = cut-case (eqb c b) c (upTo b s) s (behind b s) (pieces b) (pieces b s) refl (pieces-cut b s) h
 
-last-case : (t : Bool) (c : ℕ) (u s : List ℕ) (ps : List (List ℕ)) → (length s ≤ length u → ps ≡ s ∷ []) → length (c ∷ s) ≤ length (cond t [] (c ∷ u))
+last-case : (t : Bool) (c : ℕ) (u s : List ℕ) (ps : List (List ℕ))
+    → (length s ≤ length u → ps ≡ s ∷ []) → length (c ∷ s) ≤ length (cond t [] (c ∷ u))
     → cond t ([] ∷ ps) (onFirst c ps) ≡ (c ∷ s) ∷ []
 unfolding onFirst
 last-case true c u s ps e h = absurd (omega arith)

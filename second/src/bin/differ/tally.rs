@@ -2,17 +2,20 @@
 
 use second::lines;
 use second::plant::Call;
+use second::trials::order::is_out_of_order;
 use std::ops::RangeInclusive;
 
-/// The kinds of answers: lines by the call they ask, the held line, and the functions that are
-/// called by numbers; a gap that is told stands by where it is.
-const KINDS: [&str; 24] = [
+/// The kinds of answers: lines by the call they ask, or where they are no forms, apart those that
+/// are none for the order of their fields alone; the held line; and the functions that are called
+/// by numbers; a gap that is told stands by where it is.
+const KINDS: [&str; 25] = [
     "receive",
     "feed",
     "settle",
     "return",
     "release",
     "recycle",
+    "out of order",
     "no form",
     "held",
     "jilghvani_fresh",
@@ -42,6 +45,7 @@ pub fn kind_of(line: &[u8]) -> &'static str {
         Some(Call::Return(_)) => "return",
         Some(Call::Release(_)) => "release",
         Some(Call::Recycle(_)) => "recycle",
+        None if is_out_of_order(line) => "out of order",
         None => "no form",
     }
 }

@@ -37,13 +37,20 @@ field-of-requires c κs = search needs
 
 returns : tie.Need-returns
 returns c =
-    let a = c .before .before .before .before .before .before .before .before .before .args in
+    let at-find = c .before .before .before in
+    let at-place = at-find .before .before .before in
+    let a = at-place .before .before .before .args in
+    let p = at-place .place in
     c .field-of .ensures
-    ∙ ap₂ fieldOf (c .before .before .before .find .ensures) (c .before .read-number .ensures)
-    ∙ field-split (entries (a .count) (a .table .now)) (a .s .now) (c .before .before .before .before .before .before .place .result) (c .before .before .before .before .before .before .place .ensures .0)
+    ∙ ap₂ fieldOf (at-find .find .ensures) (c .before .read-number .ensures)
+    ∙ field-split (entries (a .count) (a .table .now)) (a .from) (a .s .now) (p .result) (p .ensures .0)
 
 returns-2 : tie.Need-returns-2
-returns-2 c = let a = c .before .before .before .before .args in field-none (entries (a .count) (a .table .now)) (a .s .now) (c .before .place .result) (c .before .place .ensures .0) (c .if1 .left)
+returns-2 c =
+    let at-place = c .before in
+    let a = at-place .before .before .before .args in
+    let p = at-place .place in
+    field-none (entries (a .count) (a .table .now)) (a .from) (a .s .now) (p .result) (p .ensures .0) (c .if1 .left)
 
 pub read-field-spec : {M : Type 1} → statement M
 read-field-spec =

@@ -1,8 +1,10 @@
 -- `reading::fields::read_piece` meets its contract. Assumes nothing.
+use mathlib.Core.List.{List}
 use mathlib.Core.Path.{ap, _∙_}
+use Prim.Native.Nat.{ℕ}
 use native.Mathlib.Omega.{arith}
 use Rattle.reading.specs.Names.{entries}
-use Rattle.reading.specs.Form.{readField}
+use Rattle.reading.specs.Form.{readField, fieldFrom}
 use Rattle.reading.proofs.Laws.Text.{rest-of}
 use Rattle.reading.proofs.Laws.Form.{piece-short, piece-first, piece-second, piece-well}
 use borrow.Author.Needs.{needs}
@@ -10,19 +12,19 @@ use Rattle.reading.proofs.fields.read_piece.Statement.{statement}
 use Rattle.reading.proofs.fields.read_piece.Tie as tie
 
 returns : tie.Need-returns
-returns c = piece-short _ _ (c .if1 .taken)
+returns c = ap (fieldFrom _) (piece-short _ _ (c .if1 .taken))
 
 shared-slice-read-if2 : tie.Need-shared-slice-read-if2
 shared-slice-read-if2 c = search needs
 
 returns-2 : tie.Need-returns-2
-returns-2 c = piece-first _ _ (c .if2 .taken)
+returns-2 c = ap (fieldFrom _) (piece-first _ _ (c .if2 .taken))
 
 shared-slice-read-if3 : tie.Need-shared-slice-read-if3
 shared-slice-read-if3 c = search needs
 
 returns-3 : tie.Need-returns-3
-returns-3 c = piece-second _ _ (c .if3 .taken)
+returns-3 c = ap (fieldFrom _) (piece-second _ _ (c .if3 .taken))
 
 sub-read-field : tie.Need-sub-read-field
 sub-read-field c = search needs
@@ -38,10 +40,13 @@ read-field-requires c κs = search needs
 
 returns-4 : tie.Need-returns-4
 returns-4 c =
-    let a = c .before .before .before .before .before .before .before .before .before .args in
+    let at-second = c .before .before in
+    let at-first = at-second .before .before in
+    let a = at-first .before .before .before .before .before .args in
+    let names = entries (a .count) (a .table .now) in
     c .read-field .ensures
-    ∙ ap (readField (entries (a .count) (a .table .now))) (rest-of (a .s .now) 2)
-    ∙ piece-well (entries (a .count) (a .table .now)) (a .s .now) (omega arith) (c .before .before .before .before .if2 .left) (c .before .before .if3 .left)
+    ∙ ap (λ (s : List ℕ). fieldFrom (a .from) (readField names s)) (rest-of (a .s .now) 2)
+    ∙ ap (fieldFrom (a .from)) (piece-well names (a .s .now) (omega arith) (at-first .if2 .left) (at-second .if3 .left))
 
 pub read-piece-spec : {M : Type 1} → statement M
 read-piece-spec =

@@ -1,6 +1,6 @@
 -- `reading::form::settle_behind` meets its contract. Assumes nothing.
 use mathlib.Core.Path.{ap, _∙_}
-use Rattle.reading.specs.Form.{settleRest}
+use Rattle.reading.specs.Form.{readFields, settleBy}
 use Rattle.reading.proofs.Laws.Form.{behind-part, settle-none}
 use borrow.Author.Needs.{needs}
 use Rattle.reading.proofs.form.settle_behind.Statement.{statement}
@@ -22,13 +22,17 @@ read-settle-requires : tie.Need-read-settle-requires
 read-settle-requires c κs = search needs
 
 returns : tie.Need-returns
-returns c = c .read-settle .ensures ∙ ap settleRest (behind-part (c .before .before .before .before .args .t .now) (c .before .before .before .before .args .k) (c .before .before .before .before .pre))
+returns c =
+    let start = c .before .before .before .before in
+    c .read-settle .ensures ∙ ap (settleBy readFields) (behind-part (start .args .t .now) (start .args .k) (start .pre))
 
 no-form-requires : tie.Need-no-form-requires
 no-form-requires c κs = search needs
 
 returns-2 : tie.Need-returns-2
-returns-2 c = c .no-form .ensures ∙ settle-none (c .before .before .before .args .t .now) (c .before .before .before .args .k) (c .before .before .before .pre) (c .before .if1 .left)
+returns-2 c =
+    let start = c .before .before .before in
+    c .no-form .ensures ∙ settle-none (start .args .t .now) (start .args .k) (start .pre) (c .before .if1 .left)
 
 pub settle-behind-spec : {M : Type 1} → statement M
 settle-behind-spec =
