@@ -194,7 +194,9 @@ static inline const char *jilghvani_refusal_text(uint64_t refusal)
  * record    the caller's 52 columns, read and written; changed by an accepted
  *           call only. A refused call leaves every column as it was.
  * line      line_len bytes that the caller owns, without the newline; they are
- *           read and never written. They need no ending zero.
+ *           read and never written. They need no ending zero. Fields stand in
+ *           the order of the columns, as "(receive (ss 10) (xs 30))"; in
+ *           another order the line gets 11.
  * buf       buf_len bytes that the caller lends; the answer stands first in it,
  *           without newline and without ending zero. Bytes behind the answer
  *           keep their values. 512 bytes hold every answer.

@@ -4,11 +4,13 @@
 --   anyFields     none or more fields, each behind a space, each column at most once
 --   inOrder       their columns rise: document 02, E2
 --   readFields    fields in that order
+--   fieldFrom     a field where its column is n or behind it
 --   numberWords   the words of the forms with a number alone: (feed N), (return N), (release N), and (recycle N) of document 02, E1
 --   formBy        inside the outer bracket: (receive F..), (settle N F..), or one of these
 --   lineBy        a whole line: at most 1,024 bytes, a bracket around them
 --   readLine      a line, its fields in order
---   anyLine       a line of document 01 as it stood before, its fields in any order
+--   anyLine       a line as it was read before E2, its fields in any order
+--   ordered       a line's fields, where it has any, are in order
 --   OrderLaw      the lines of readLine are those of anyLine that are ordered, and read as there
 --
 -- The part inside a bracket is read by itself.
@@ -81,8 +83,7 @@ atEnd f [] = f
 atEnd f (c ∷ s) = noFields false
 
 abbrev pub whenOk : Bool → Fields → Fields
-whenOk true f = f
-whenOk false f = noFields false
+whenOk b f = cond b f (noFields false)
 
 unfoldable pub readPieces : List (List ℕ) → Fields → List (List ℕ) → Fields
 readPieces names f [] = noFields false
@@ -161,7 +162,7 @@ numberLine w NotANumber = noForm
 abbrev pub Reader : Type 0
 Reader = List (List ℕ) → List ℕ → Fields
 
--- behind the word settle and its space: a number, then fields
+-- behind the word settle and its space: a number, then fields, which begin at the next space
 abbrev pub settlePart : List ℕ → List ℕ
 settlePart u = drop (length (upTo space u)) u
 
@@ -178,7 +179,7 @@ formOf fields w t =
 abbrev pub formBy : Reader → List ℕ → Line
 formBy fields t = formOf fields (upTo space t) t
 
--- a bracket around the whole
+-- a bracket around the whole, and what is inside
 unfoldable pub inBrackets : List ℕ → Bool
 inBrackets s = leb 2 (length s) && leb (length s) 1024 && eqb (getD s 0 0) opening && eqb (getD s (length s - 1) 0) closing
 

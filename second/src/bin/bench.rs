@@ -1,8 +1,8 @@
 //! The benchmark: `sludgeline` against `second` on one long session, with `wc -l`
 //! as the floor, and one feed and one recycle of the C library against those in Rust.
-//! The feeds' records are those from before there was a recycle, and the session is of the
-//! same kind as then but for its fields, which stand in the order of their columns, so that
-//! older figures can be held against new ones.
+//! The feeds' records are those from before there was a recycle, so that older figures of a feed
+//! can be held against new ones. The session's fields stand in the order of their columns; before
+//! request E2 they did not, so that its older figures are those of another session.
 //!
 //!     bench [--rounds N] [--megabytes N] [--program PATH] [--before PATH]
 //!

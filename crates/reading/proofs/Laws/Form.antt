@@ -143,24 +143,25 @@ add-marked f x o p q h e =
 abbrev pub left : List (List ℕ) → ℕ → Fields → List (List ℕ) → Fields
 left names n f ps = whenOk (rises n (named names ps)) (readPieces names f ps)
 
-when-swap : (a b : Bool) (f : Fields) → whenOk a (whenOk b f) ≡ whenOk b (whenOk a f)
-when-swap true b f = refl
-when-swap false true f = refl
-when-swap false false f = refl
+-- two tests with the same end may change places
+cond-swap : {A : Type 0} (a b : Bool) (x y : A) → cond a (cond b x y) y ≡ cond b (cond a x y) y
+cond-swap true b x y = refl
+cond-swap false true x y = refl
+cond-swap false false x y = refl
 
 -- nothing is read behind what is no field or steps back
 left-case : (n : ℕ) (x : Field) (r : ℕ → Bool) (f : Fields) (g : Fields → Fields)
     → whenOk (leb n (columnIn x) && r (columnIn x + 1)) (whenOk (addField f x .ok) (g (addField f x)))
     ≡ whenOk (addField f (fieldFrom n x) .ok) (whenOk (r (columnIn (fieldFrom n x) + 1)) (g (addField f (fieldFrom n x))))
 unfolding addField
-left-case n NotAField r f g = when-swap (leb n 26 && r 27) false (noFields true)
+left-case n NotAField r f g = cond-swap (leb n 26 && r 27) false (noFields true) (noFields false)
 left-case n (Of c k) r f g = go (leb n c)
   where
     go : (b : Bool)
         → whenOk (b && r (c + 1)) (whenOk (addField f (Of c k) .ok) (g (addField f (Of c k))))
         ≡ whenOk (addField f (cond b (Of c k) NotAField) .ok)
         (whenOk (r (columnIn (cond b (Of c k) NotAField) + 1)) (g (addField f (cond b (Of c k) NotAField))))
-    go true = when-swap (r (c + 1)) (addField f (Of c k) .ok) (g (addField f (Of c k)))
+    go true = cond-swap (r (c + 1)) (addField f (Of c k) .ok) (g (addField f (Of c k))) (noFields false)
     go false = refl
 
 left-step : (names : List (List ℕ)) (n : ℕ) (f : Fields) (p : List ℕ) (ps : List (List ℕ)) → 0 < length ps
@@ -325,13 +326,8 @@ form-ordered w t = go (sameBytes w (ascii "receive")) (sameBytes w (ascii "settl
         (anyFields (namesOf Digester) (settlePart (behind 32 t)))
     go false false = refl
 
-bracket-case : (b o : Bool) (x : Line) → cond b (cond o x noForm) noForm ≡ cond o (cond b x noForm) noForm
-bracket-case true o x = refl
-bracket-case false true x = refl
-bracket-case false false x = refl
-
 pub order-law : OrderLaw
 unfolding readLine
 order-law s =
     ap (λ (l : Line). cond (inBrackets s) l noForm) (form-ordered (upTo 32 (inner s)) (inner s))
-    ∙ bracket-case (inBrackets s) (ordered s) (formBy anyFields (inner s))
+    ∙ cond-swap (inBrackets s) (ordered s) (formBy anyFields (inner s)) noForm
