@@ -69,9 +69,9 @@ extern "C" {
 #endif
 
 /* The version of this header, and its three numbers. */
-#define JILGHVANI_VERSION "0.8.0"
+#define JILGHVANI_VERSION "0.9.0"
 #define JILGHVANI_VERSION_MAJOR 0
-#define JILGHVANI_VERSION_MINOR 8
+#define JILGHVANI_VERSION_MINOR 9
 #define JILGHVANI_VERSION_PATCH 0
 
 /* Sizes, and the places of columns: record[JILGHVANI_DIGESTER_AT +
@@ -86,7 +86,7 @@ enum {
     JILGHVANI_COLUMNS = 52,   /* columns of a record */
     JILGHVANI_BUFFER = 512,   /* the shortest buffer that is not refused */
     JILGHVANI_LINE = 1024,    /* the longest line that is read; no form is longer
-                               * than 729 bytes, so that a longer line gets refusal
+                               * than 739 bytes, so that a longer line gets refusal
                                * 11, or 12 before it where the buffer is short */
 
     /* the columns of an ASM1 vector */
@@ -189,10 +189,11 @@ static inline const char *jilghvani_refusal_text(uint64_t refusal)
 /* ---- The calls as text ---- */
 
 /* Makes the call that a line in brackets asks for, as "(feed 1000)", and writes
- * its answer, as "(ok feed burnt 0 oxygen 0 nitrate 0 warn 0)" or "(no 2)".
+ * its answer, as "(ok feed burnt 0 oxygen 0 nitrate 0 warn 0)" or "(no 2)". A
+ * preview, as "(preview (feed 1000))", writes the same answer and changes nothing.
  *
  * record    the caller's 52 columns, read and written; changed by an accepted
- *           call only. A refused call leaves every column as it was.
+ *           call only. A refused call and a preview leave every column as it was.
  * line      line_len bytes that the caller owns, without the newline; they are
  *           read and never written. They need no ending zero. Fields stand in
  *           the order of the columns, as "(receive (ss 10) (xs 30))"; in

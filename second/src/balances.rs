@@ -3,9 +3,10 @@
 //!
 //! What the list received is in the tanks after it, or it has left them: released, burnt
 //! or reduced by feeds, stripped by returns, or gas of settles. A recycle moves water
-//! between two tanks and adds to neither side; a refused call counts for nothing.
+//! between two tanks and adds to neither side; a refused call and a preview count for
+//! nothing.
 
-use crate::lines;
+use crate::lines::{self, Asked};
 use crate::plant::Call;
 use crate::tables::*;
 
@@ -64,7 +65,7 @@ impl Balances {
 
     /// Counts a line by its answer.
     pub fn count_line(&mut self, line: &[u8], answer: &[u8]) {
-        if let (Some(call), true) = (lines::read(line), answer.starts_with(b"(ok ")) {
+        if let (Some(Asked::Call(call)), true) = (lines::read(line), answer.starts_with(b"(ok ")) {
             self.count(&call, &numbers_in(answer));
         }
     }

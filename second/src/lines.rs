@@ -1,5 +1,5 @@
-//! The text layer: a line in brackets read as a call, and its answer written into
-//! a buffer that the caller lends.
+//! The text layer: a line in brackets read as a call or its preview, and its answer
+//! written into a buffer that the caller lends.
 
 use crate::convert::FeedTold;
 use crate::plant::{Call, Held, Plant, Refusal, Told};
@@ -11,12 +11,32 @@ pub const LONGEST_LINE: usize = 1024;
 /// The fewest bytes a lent answer buffer may have.
 pub const SHORTEST_BUFFER: usize = 512;
 
-/// Reads one line, without its newline, as a call; `None` is refusal 11.
-pub fn read(line: &[u8]) -> Option<Call> {
+/// What a line asks for.
+#[derive(Clone, Debug, PartialEq, Eq)]
+pub enum Asked {
+    Call(Call),
+    Preview(Call),
+}
+
+/// Reads one line, without its newline; `None` is refusal 11.
+pub fn read(line: &[u8]) -> Option<Asked> {
     if line.len() > LONGEST_LINE {
         return None;
     }
-    let inner = line.strip_prefix(b"(")?.strip_suffix(b")")?;
+    match previewed(line) {
+        Some(form) => read_call(form).map(Asked::Preview),
+        None => read_call(line).map(Asked::Call),
+    }
+}
+
+/// What a preview's brackets hold behind its word, whatever it is; `None` without that word.
+pub fn previewed(line: &[u8]) -> Option<&[u8]> {
+    line.strip_prefix(b"(preview ")?.strip_suffix(b")")
+}
+
+/// Reads the form of a call; a preview is none.
+fn read_call(form: &[u8]) -> Option<Call> {
+    let inner = form.strip_prefix(b"(")?.strip_suffix(b")")?;
     if let Some(rest) = inner.strip_prefix(b"receive") {
         return fields(rest, asm1_column).map(Call::Receive);
     }
@@ -207,7 +227,8 @@ pub fn answer<'b>(plant: &mut Plant, line: &[u8], buffer: &'b mut [u8]) -> &'b [
         return &[];
     }
     let answer = match read(line) {
-        Some(call) => plant.call(&call),
+        Some(Asked::Call(call)) => plant.call(&call),
+        Some(Asked::Preview(call)) => plant.preview(&call),
         None => Err(Refusal::NoForm),
     };
     write(&answer, buffer)

@@ -1,5 +1,5 @@
-//! The plant record: sludge, digester and reject tank, the six calls on it, the
-//! refusals in their order, and what is held.
+//! The plant record: sludge, digester and reject tank, the six calls on it and their
+//! previews, the refusals in their order, and what is held.
 
 use crate::convert::{self, FeedTold};
 use crate::tables::*;
@@ -221,6 +221,12 @@ impl Plant {
             Call::Release(k) => self.release(*k).map(Told::Released),
             Call::Recycle(k) => self.recycle(*k).map(|()| Told::Recycled),
         }
+    }
+
+    /// What a call would give: it is made on a copy of the record.
+    pub fn preview(&self, call: &Call) -> Result<Told, Refusal> {
+        let mut copy = *self;
+        copy.call(call)
     }
 
     /// COD, TKN, oxygen and nitrate over all three tanks, or refusal 1.

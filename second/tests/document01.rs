@@ -5,6 +5,7 @@
 mod named;
 
 use named::{asm1, digester, with_digester, with_sludge};
+use second::lines::Asked;
 use second::plant::{Call, Plant, Refusal, Told};
 use second::tables::*;
 use second::{convert, lines, session};
@@ -207,17 +208,19 @@ fn draws_floor() {
 #[test]
 fn lines_that_are_forms() {
     let max = u64::MAX;
-    let read = |line: &str| lines::read(line.as_bytes());
-    assert_eq!(read("(receive)"), Some(Call::Receive([0; 13])));
+    let reads = |line: &str, call| {
+        assert_eq!(lines::read(line.as_bytes()), Some(Asked::Call(call)));
+    };
+    reads("(receive)", Call::Receive([0; 13]));
     let v = asm1(&[("si", 0), ("so", 7), ("xnd", max)]);
     let line = "(receive (si 0) (so 7) (xnd 18446744073709551615))";
-    assert_eq!(read(line), Some(Call::Receive(v)));
-    assert_eq!(read("(feed 18446744073709551615)"), Some(Call::Feed(max)));
-    assert_eq!(read("(settle 0)"), Some(Call::Settle(0, [0; 26])));
+    reads(line, Call::Receive(v));
+    reads("(feed 18446744073709551615)", Call::Feed(max));
+    reads("(settle 0)", Call::Settle(0, [0; 26]));
     let v = digester(&[("si", 2), ("xsu", 4), ("sin", 1), ("sic", 3)]);
-    assert_eq!(read("(settle 9 (si 2) (xsu 4) (sin 1) (sic 3))"), Some(Call::Settle(9, v)));
-    assert_eq!(read("(return 0)"), Some(Call::Return(0)));
-    assert_eq!(read("(release 10)"), Some(Call::Release(10)));
+    reads("(settle 9 (si 2) (xsu 4) (sin 1) (sic 3))", Call::Settle(9, v));
+    reads("(return 0)", Call::Return(0));
+    reads("(release 10)", Call::Release(10));
 }
 
 /// Lines that are no forms.

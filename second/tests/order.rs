@@ -6,6 +6,7 @@
 mod named;
 
 use named::{asm1, digester, with_digester, with_sludge};
+use second::lines::Asked;
 use second::plant::{Call, Plant};
 use second::random::Random;
 use second::tables::*;
@@ -40,11 +41,11 @@ fn line(word: &str, fields: &[Field]) -> String {
 }
 
 /// The call of this word with these fields, whatever their order.
-fn call(word: &str, fields: &[Field]) -> Call {
-    match word {
+fn call(word: &str, fields: &[Field]) -> Asked {
+    Asked::Call(match word {
         "receive" => Call::Receive(asm1(fields)),
         _ => Call::Settle(7, digester(fields)),
-    }
+    })
 }
 
 /// The answer to one line on a record, as text.
@@ -216,9 +217,10 @@ fn each_word_by_its_own_table() {
         no_form(other);
     }
     let v = digester(&[("sac", 1), ("xi", 2)]);
-    assert_eq!(lines::read(b"(settle 0 (sac 1) (xi 2))"), Some(Call::Settle(0, v)));
+    let settle = |v| Some(Asked::Call(Call::Settle(0, v)));
+    assert_eq!(lines::read(b"(settle 0 (sac 1) (xi 2))"), settle(v));
     let v = digester(&[("xsu", 1), ("sin", 2)]);
-    assert_eq!(lines::read(b"(settle 0 (xsu 1) (sin 2))"), Some(Call::Settle(0, v)));
+    assert_eq!(lines::read(b"(settle 0 (xsu 1) (sin 2))"), settle(v));
 }
 
 /// The order is asked of zeros too, before 1, 3, 7 and 10, and behind 12.
@@ -275,7 +277,8 @@ fn random_calls() {
         for _ in 0..100 {
             let call = trial.call(&plant);
             let mut line = form(&mut trial.random, &call);
-            assert_eq!(lines::read(&line).as_ref(), Some(&call), "{}", line.escape_ascii());
+            let asked = Some(Asked::Call(call.clone()));
+            assert_eq!(lines::read(&line), asked, "{}", line.escape_ascii());
             if order::disorder(&mut trial.random, &mut line) {
                 met[usize::from(line.starts_with(b"(settle"))] += 1;
                 refused(plant, std::str::from_utf8(&line).unwrap(), 11);

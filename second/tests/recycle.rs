@@ -7,6 +7,7 @@ mod named;
 
 use named::{asm1, digester, with_digester, with_sludge};
 use second::balances::{numbers_in, Balances};
+use second::lines::Asked;
 use second::plant::{Call, Plant, Refusal, Told};
 use second::random::Random;
 use second::tables::*;
@@ -123,8 +124,9 @@ fn refusals_in_order() {
 /// The line, and lines that are nearly one.
 #[test]
 fn the_line() {
-    assert_eq!(lines::read(b"(recycle 0)"), Some(Call::Recycle(0)));
-    assert_eq!(lines::read(b"(recycle 18446744073709551615)"), Some(Call::Recycle(u64::MAX)));
+    let recycle = |k| Some(Asked::Call(Call::Recycle(k)));
+    assert_eq!(lines::read(b"(recycle 0)"), recycle(0));
+    assert_eq!(lines::read(b"(recycle 18446744073709551615)"), recycle(u64::MAX));
     let broken = [
         "(recycle)",
         "(recycle )",

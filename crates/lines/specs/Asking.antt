@@ -1,5 +1,6 @@
--- The call on a line: document 01, "Lines in brackets" and "What the link sends away".
+-- The call on a line: document 01, "Lines in brackets" and "What the link sends away", and document 02, E3.
 --
+--   requestOf      the request of a line with a call
 --   formOutcome    what a line that has been read gives on a record; no form is refused with 11
 --   lineOutcome    the outcome with a buffer of m bytes, refused with 12 where m is under 512
 --   lineText       the answer's bytes
@@ -14,21 +15,27 @@ use lib.Dec.{ltb}
 use lib.ListN.{length}
 use Rattle.vectors.specs.declared.figures.Figures.{Figures}
 use Rattle.plant.specs.declared.record.Plant.{Plant}
+use Rattle.plant.specs.declared.answer.Call.{Call}
+use Rattle.plant.specs.declared.answer.Request.{Request}
 use Rattle.plant.specs.declared.answer.Outcome.{Outcome}
 use Rattle.plant.specs.Answer.{refused}
-use Rattle.plant.specs.Calls.{step}
+use Rattle.plant.specs.Calls.{step, previewOf}
 use Rattle.reading.specs.declared.form.Form.{Form}
-use Rattle.reading.specs.declared.form.Form.the-variants.{Asked, NotAForm}
+use Rattle.reading.specs.declared.form.Form.the-variants.{Asked, Previewed, NotAForm}
 use Rattle.reading.specs.declared.form.Line.{Line}
 use Rattle.lines.specs.declared.asking.LineOutcome.{LineOutcome}
-use Rattle.reading.specs.Form.{readLine}
+use Rattle.reading.specs.Line.{readLine}
 use Rattle.writing.specs.Buffer.{Answered}
 use Rattle.writing.specs.Answer.{answerText, heldText, fitting}
 use Rattle.plant.specs.Held.{heldOf}
 use Rattle.lines.specs.declared.asking.HeldOutcome.{HeldOutcome}
 
+abbrev pub requestOf : Call → Line → Request
+requestOf call l = record { call = call; sludge = l .sludge; digester = l .digester }
+
 abbrev pub askedOutcome : Figures → Plant → Form → Line → Outcome
-askedOutcome f p (Asked call) l = step f p (record { call = call; sludge = l .sludge; digester = l .digester })
+askedOutcome f p (Asked call) l = step f p (requestOf call l)
+askedOutcome f p (Previewed call) l = previewOf f p (requestOf call l)
 askedOutcome f p NotAForm l = refused p 11
 
 abbrev pub formOutcome : Figures → Plant → Line → Outcome

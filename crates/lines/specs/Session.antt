@@ -5,40 +5,41 @@
 --   answers, afterLines          the same for a list of lines, each on the record that the one before left
 --   heldLine                     the held line with its newline
 --   transcript, printed          all that is printed for a list of lines, and for an input, on a record
---   requests                     the calls that a list of lines asks
+--   entries                      the calls and previews that a list of lines asks
 --   State, run                   the same byte by byte, with at most 1,025 bytes of the line that is not ended
 --   endText                      behind the last byte: the answer to a line that lacks its newline, then the held line
 --   joined, runBlocks            an input that falls into blocks, and its blocks one behind the other
 --   PrintedLaw                   however an input falls into blocks, the answers on the way and then the end are what is printed for it.
 --                                proofs/Laws/Session.antt proves it: printed-whole
 --   written, WrittenLaw          the same where the answers are written behind each block: proofs/Laws/Carry.antt, written-whole
+--   PreviewGiven, PreviewLaw     (preview FORM) prints what FORM would, and leaves the record: proofs/Laws/Preview.antt, preview-given
 --   FileLaw                      for any input, its accepted lines' sums balance against its held line.
 --                                proofs/Laws/File.antt proves it: file
 --
 -- f is the set of figures; the program has the house set.
-use mathlib.Core.Bool.{cond}
+use mathlib.Core.Bool.{true, false, cond}
 use mathlib.Core.List.{List, [], _∷_, _++_}
 use mathlib.Core.Path.{_≡_}
-use Prim.Native.Nat.{ℕ, _+_}
+use Prim.Native.Nat.{ℕ, _+_, _≤_}
 use lib.Dec.{eqb}
-use lib.ListN.{take}
+use lib.ListN.{length, take}
 use Rattle.vectors.specs.declared.figures.Figures.{Figures}
 use Rattle.vectors.specs.Figures.{Permitted}
 use Rattle.vectors.specs.Totals.{asm1Cod, asm1Tkn, asm1Oxygen, asm1Nitrate}
 use Rattle.plant.specs.declared.record.Plant.{Plant}
-use Rattle.plant.specs.declared.answer.Request.{Request}
 use Rattle.plant.specs.declared.answer.Outcome.{Outcome}
 use Rattle.plant.specs.Record.{freshPlant}
+use Rattle.plant.specs.Answer.{refused}
 use Rattle.plant.specs.declared.holding.HeldTotals.{HeldTotals}
-use Rattle.plant.specs.Balance.{received, released, burnt, gas, stripped, oxygenReduced, nitrateReduced}
+use Rattle.plant.specs.Balance.{Entry, calls, previews, received, released, burnt, gas, stripped, oxygenReduced, nitrateReduced}
 use Rattle.plant.specs.Held.{heldOf}
 use Rattle.reading.specs.declared.form.Form.{Form}
-use Rattle.reading.specs.declared.form.Form.the-variants.{Asked, NotAForm}
+use Rattle.reading.specs.declared.form.Form.the-variants.{Asked, Previewed, NotAForm}
 use Rattle.reading.specs.declared.form.Line.{Line}
 use Rattle.reading.specs.Text.{newline}
-use Rattle.reading.specs.Form.{readLine}
+use Rattle.reading.specs.Line.{isPreviewed, readLine, previewText}
 use Rattle.writing.specs.Answer.{heldText}
-use Rattle.lines.specs.Asking.{formOutcome, outcomeText}
+use Rattle.lines.specs.Asking.{requestOf, formOutcome, outcomeText}
 
 -- ---- lines
 
@@ -85,15 +86,16 @@ transcript f p ls = answers f p ls ++ heldLine f (afterLines f p ls)
 abbrev pub printed : Figures → Plant → List ℕ → List ℕ
 printed f p s = transcript f p (cutLines s)
 
--- ---- the calls that lines ask
+-- ---- the calls and previews that lines ask
 
-abbrev pub requestOf : Form → Line → List Request → List Request
-requestOf (Asked call) l rs = record { call = call; sludge = l .sludge; digester = l .digester } ∷ rs
-requestOf NotAForm l rs = rs
+abbrev pub entryOf : Form → Line → List Entry → List Entry
+entryOf (Asked call) l es = calls (requestOf call l) ∷ es
+entryOf (Previewed call) l es = previews (requestOf call l) ∷ es
+entryOf NotAForm l es = es
 
-unfoldable pub requests : List (List ℕ) → List Request
-requests [] = []
-requests (l ∷ ls) = requestOf (readLine l .form) (readLine l) (requests ls)
+unfoldable pub entries : List (List ℕ) → List Entry
+entries [] = []
+entries (l ∷ ls) = entryOf (readLine l .form) (readLine l) (entries ls)
 
 -- ---- byte by byte
 
@@ -155,14 +157,23 @@ PrintedLaw = (f : Figures) (p : Plant) (bs : List (List ℕ)) → said f (runBlo
 abbrev pub WrittenLaw : Type 0
 WrittenLaw = (f : Figures) (p : Plant) (bs : List (List ℕ)) → written f (start p) bs ≡ printed f p (joined bs)
 
--- the sums over an input's accepted lines against its held line, which is never a refusal
-pub record FileBalanced (f : Figures) (rs : List Request) (held : HeldTotals) : Type 0 where
+-- document 02, E3: a preview of what stands in the line u, for any bytes u
+pub record PreviewGiven (f : Figures) (p : Plant) (u : List ℕ) : Type 0 where
+  pub plant : afterLine f p (previewText u) ≡ p
+  pub answer : length (previewText u) ≤ 1024 → isPreviewed (readLine u .form) ≡ false → answerOf f p (previewText u) ≡ answerOf f p u
+  pub nested : isPreviewed (readLine u .form) ≡ true → givenBy f p (previewText u) ≡ refused p 11
+
+abbrev pub PreviewLaw : Type 0
+PreviewLaw = (f : Figures) (p : Plant) (u : List ℕ) → PreviewGiven f p u
+
+-- the sums over an input's lines, accepted calls alone, against its held line, which is never a refusal
+pub record FileBalanced (f : Figures) (es : List Entry) (held : HeldTotals) : Type 0 where
   pub told : held .refusal ≡ 0
-  pub cod : received f rs asm1Cod ≡ held .cod .0 + released f rs asm1Cod + burnt f rs + gas f rs + stripped f rs
-  pub tkn : received f rs (asm1Tkn f) ≡ held .tkn .0 + released f rs (asm1Tkn f)
-  pub oxygen : received f rs asm1Oxygen ≡ held .oxygen .0 + released f rs asm1Oxygen + oxygenReduced f rs
-  pub nitrate : received f rs asm1Nitrate ≡ held .nitrate .0 + released f rs asm1Nitrate + nitrateReduced f rs
+  pub cod : received f es asm1Cod ≡ held .cod .0 + released f es asm1Cod + burnt f es + gas f es + stripped f es
+  pub tkn : received f es (asm1Tkn f) ≡ held .tkn .0 + released f es (asm1Tkn f)
+  pub oxygen : received f es asm1Oxygen ≡ held .oxygen .0 + released f es asm1Oxygen + oxygenReduced f es
+  pub nitrate : received f es asm1Nitrate ≡ held .nitrate .0 + released f es asm1Nitrate + nitrateReduced f es
 
 abbrev pub FileLaw : Type 0
 FileLaw = (f : Figures) → Permitted f → (s : List ℕ)
-    → FileBalanced f (requests (cutLines s)) (heldOf f (afterLines f freshPlant (cutLines s)))
+    → FileBalanced f (entries (cutLines s)) (heldOf f (afterLines f freshPlant (cutLines s)))

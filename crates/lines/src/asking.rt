@@ -7,6 +7,7 @@ use plant::Plant;
 use plant::Request;
 use plant::answer_request;
 use plant::held;
+use plant::preview;
 use plant::refusal;
 use reading::Form;
 use reading::Line;
@@ -37,6 +38,7 @@ pub fn answer_line(plant: Plant, line: &[u8], buf: &mut [u8]) -> LineOutcome
     LineOutcome { outcome, length }
 }
 
+// What a line that has been read gives on the record.
 fn form_outcome(plant: Plant, l: Line) -> Outcome
     ensures { λ r. ⌜ r ≡ formOutcome house plant l ⌝ }
 {
@@ -45,6 +47,14 @@ fn form_outcome(plant: Plant, l: Line) -> Outcome
     let digester = l.digester;
     match form {
         Form::Asked(call) => answer_request(
+            plant,
+            Request {
+                call,
+                sludge,
+                digester,
+            },
+        ),
+        Form::Previewed(call) => preview(
             plant,
             Request {
                 call,

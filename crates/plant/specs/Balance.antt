@@ -1,7 +1,10 @@
--- The balances over a list of calls: document 01, "Demand 3", and document 02, E1 (a recycle is neither received nor released).
+-- The balances over a list of calls: document 01, "Demand 3", and document 02, E1 (a recycle is neither received nor released) and E3
+-- (a preview counts for nothing).
 --
---   after                                   the record after a list of calls, each on the record that the one before returned
---   sumOver                                 a number that each call and its outcome give, added up over the list
+--   Entry                                   what stands in a list: a call, or a preview of one
+--   outcomeOf                               its outcome
+--   after                                   the record after a list, each entry on the record that the one before returned
+--   sumOver                                 a number that each call and its outcome give, added up over the list; previews are skipped
 --   accepted                                an answer that tells no refusal
 --   counts                                  what a call counts for: a receive takes its vector in, a release hands one out, a settle
 --                                           lets gas go; of the others, recycles among them, only what they tell is counted
@@ -10,13 +13,15 @@
 --   gas                                     the gas COD handed to accepted settles
 --   stripped                                what accepted returns tell
 --   codIn, tknIn, oxygenIn, nitrateIn       what is in the tanks
+--   withoutPreviews, PreviewLaw             a list without its previews: the same record is after it, and every sum is the same.
+--                                           proofs/Laws/Balance.antt proves it: previews-skipped
 --   RecycleLaw                              a recycle, refused or not, leaves what is in the three tanks together as it was.
 --                                           proofs/Laws/Balance.antt proves it: recycle-holds
---   Balanced, BalanceLaw                    the four balances, for every list of calls and every permitted set of figures.
+--   Balanced, BalanceLaw                    the four balances, for every list of calls and previews and every permitted set of figures.
 --                                           proofs/Laws/Balance.antt proves it: balance
 --
--- A list holds everything that is handed to its calls: any k, any gas, any vector of any length, honest or not. Its sums are whole
--- numbers without a ceiling.
+-- A list holds everything that is handed to its calls and previews: any k, any gas, any vector of any length, honest or not. Its sums
+-- are whole numbers without a ceiling.
 use mathlib.Core.Bool.{Bool, true, false, cond}
 use mathlib.Core.List.{List, [], _∷_}
 use mathlib.Core.Path.{_≡_}
@@ -33,17 +38,26 @@ use Rattle.plant.specs.declared.answer.Request.{Request}
 use Rattle.plant.specs.declared.answer.Outcome.{Outcome}
 use Rattle.plant.specs.Record.{freshPlant}
 use Rattle.plant.specs.Answer.{told}
-use Rattle.plant.specs.Calls.{step, recycling}
+use Rattle.plant.specs.Calls.{step, previewOf, recycling}
 
--- ---- a list of calls
+-- ---- a list of calls and previews
 
-abbrev pub after : Figures → Plant → List Request → Plant
+pub data Entry : Type 0 where
+  calls : Request → Entry
+  previews : Request → Entry
+
+abbrev pub outcomeOf : Figures → Plant → Entry → Outcome
+outcomeOf f p (calls r) = step f p r
+outcomeOf f p (previews r) = previewOf f p r
+
+abbrev pub after : Figures → Plant → List Entry → Plant
 after f p [] = p
-after f p (r ∷ rs) = after f (step f p r .plant) rs
+after f p (e ∷ es) = after f (outcomeOf f p e .plant) es
 
-abbrev pub sumOver : (Request → Outcome → ℕ) → Figures → Plant → List Request → ℕ
+abbrev pub sumOver : (Request → Outcome → ℕ) → Figures → Plant → List Entry → ℕ
 sumOver of f p [] = 0
-sumOver of f p (r ∷ rs) = of r (step f p r) + sumOver of f (step f p r .plant) rs
+sumOver of f p (calls r ∷ es) = of r (step f p r) + sumOver of f (step f p r .plant) es
+sumOver of f p (previews r ∷ es) = sumOver of f (previewOf f p r .plant) es
 
 -- ---- what one call adds to the sums, by the call and its answer alone
 
@@ -84,27 +98,27 @@ gasBy r o = ifAccepted o (counts (r .call) .gas)
 
 -- ---- the sums, from a fresh record
 
-module _ (f : Figures) (rs : List Request) where
+module _ (f : Figures) (es : List Entry) where
   abbrev pub received : (List ℕ → ℕ) → ℕ
-  received total = sumOver (receivedBy total) f freshPlant rs
+  received total = sumOver (receivedBy total) f freshPlant es
 
   abbrev pub released : (List ℕ → ℕ) → ℕ
-  released total = sumOver (releasedBy total) f freshPlant rs
+  released total = sumOver (releasedBy total) f freshPlant es
 
   abbrev pub burnt : ℕ
-  burnt = sumOver (λ r o. told (o .answer) .burnt) f freshPlant rs
+  burnt = sumOver (λ r o. told (o .answer) .burnt) f freshPlant es
 
   abbrev pub oxygenReduced : ℕ
-  oxygenReduced = sumOver (λ r o. told (o .answer) .oxygen) f freshPlant rs
+  oxygenReduced = sumOver (λ r o. told (o .answer) .oxygen) f freshPlant es
 
   abbrev pub nitrateReduced : ℕ
-  nitrateReduced = sumOver (λ r o. told (o .answer) .nitrate) f freshPlant rs
+  nitrateReduced = sumOver (λ r o. told (o .answer) .nitrate) f freshPlant es
 
   abbrev pub gas : ℕ
-  gas = sumOver gasBy f freshPlant rs
+  gas = sumOver gasBy f freshPlant es
 
   abbrev pub stripped : ℕ
-  stripped = sumOver (λ r o. told (o .answer) .stripped) f freshPlant rs
+  stripped = sumOver (λ r o. told (o .answer) .stripped) f freshPlant es
 
 -- ---- in the tanks
 
@@ -120,16 +134,16 @@ oxygenIn p = asm1Oxygen p.sludge + digesterOxygen p.digester + asm1Oxygen p.reje
 abbrev pub nitrateIn : Plant → ℕ
 nitrateIn p = asm1Nitrate p.sludge + digesterNitrate p.digester + asm1Nitrate p.reject
 
--- ---- the claim
+-- ---- the claims
 
-pub record Balanced (f : Figures) (rs : List Request) : Type 0 where
-  pub cod : received f rs asm1Cod ≡ codIn (after f freshPlant rs) + released f rs asm1Cod + burnt f rs + gas f rs + stripped f rs
-  pub tkn : received f rs (asm1Tkn f) ≡ tknIn f (after f freshPlant rs) + released f rs (asm1Tkn f)
-  pub oxygen : received f rs asm1Oxygen ≡ oxygenIn (after f freshPlant rs) + released f rs asm1Oxygen + oxygenReduced f rs
-  pub nitrate : received f rs asm1Nitrate ≡ nitrateIn (after f freshPlant rs) + released f rs asm1Nitrate + nitrateReduced f rs
+pub record Balanced (f : Figures) (es : List Entry) : Type 0 where
+  pub cod : received f es asm1Cod ≡ codIn (after f freshPlant es) + released f es asm1Cod + burnt f es + gas f es + stripped f es
+  pub tkn : received f es (asm1Tkn f) ≡ tknIn f (after f freshPlant es) + released f es (asm1Tkn f)
+  pub oxygen : received f es asm1Oxygen ≡ oxygenIn (after f freshPlant es) + released f es asm1Oxygen + oxygenReduced f es
+  pub nitrate : received f es asm1Nitrate ≡ nitrateIn (after f freshPlant es) + released f es asm1Nitrate + nitrateReduced f es
 
 abbrev pub BalanceLaw : Type 0
-BalanceLaw = (f : Figures) → Permitted f → (rs : List Request) → Balanced f rs
+BalanceLaw = (f : Figures) → Permitted f → (es : List Entry) → Balanced f es
 
 -- document 02, E1: recycling adds no term
 pub record SameHeld (f : Figures) (p q : Plant) : Type 0 where
@@ -140,3 +154,16 @@ pub record SameHeld (f : Figures) (p q : Plant) : Type 0 where
 
 abbrev pub RecycleLaw : Type 0
 RecycleLaw = (f : Figures) → Permitted f → (p : Plant) (k : ℕ) → SameHeld f p (step f p (recycling k) .plant)
+
+-- document 02, E3: previews may stand anywhere in a list
+abbrev pub withoutPreviews : List Entry → List Entry
+withoutPreviews [] = []
+withoutPreviews (calls r ∷ es) = calls r ∷ withoutPreviews es
+withoutPreviews (previews r ∷ es) = withoutPreviews es
+
+pub record SameList (f : Figures) (p : Plant) (ds es : List Entry) : Type 1 where
+  pub plant : after f p ds ≡ after f p es
+  pub sums : (of : Request → Outcome → ℕ) → sumOver of f p ds ≡ sumOver of f p es
+
+abbrev pub PreviewLaw : Type 1
+PreviewLaw = (f : Figures) (p : Plant) (es : List Entry) → SameList f p es (withoutPreviews es)

@@ -1,4 +1,4 @@
--- The calls on the record: document 01, "The plant record and its five calls", and document 02, E1.
+-- The calls on the record: document 01, "The plant record and its five calls", and document 02, E1 and E3.
 --
 --   Rule                                       what a call is: its refusals, in the order in which they are tested, and its outcome where
 --                                              none applies
@@ -6,6 +6,7 @@
 --   recycle                                    the call of E1
 --   fedTests, fed, settledTests, ..            parts of these that the code's parts cite
 --   ruleBy, stepBy, step                       any of them, by a request
+--   previewOf                                  a preview of it: E3
 --   refusalOf                                  the refusal that applies first, or 0
 --   tellsBy, toldOf                            what a call tells where none applies; the number and the values that a request is told
 --   TellsLaw, ExactLaw                         that an answer tells just these, and its number just the refusal
@@ -162,6 +163,10 @@ stepBy f p c v d = let r = ruleBy f p c v d in decide p (first (r .tests)) (r .d
 
 abbrev pub step : Figures → Plant → Request → Outcome
 step f p r = stepBy f p (r .call) (r .sludge) (r .digester)
+
+-- A preview answers as the call would on a copy of the record, and the record remains the one handed in: document 02, E3.
+unfoldable pub previewOf : Figures → Plant → Request → Outcome
+previewOf f p r = let o = step f p r in record { answer = o .answer; vector = o .vector; plant = p }
 
 -- the first refusal that applies, or 0
 abbrev pub refusalOf : Figures → Plant → Request → ℕ

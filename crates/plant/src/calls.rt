@@ -1,8 +1,8 @@
-// Any of the calls, by a request.
+// Any of the calls, by a request, and a preview of it.
 ghost use mathlib.Core.Path.{_≡_};
 ghost use Rattle.vectors.specs.Figures.{house};
 ghost use Rattle.plant.specs.Answer.{told};
-ghost use Rattle.plant.specs.Calls.{step, toldOf};
+ghost use Rattle.plant.specs.Calls.{step, previewOf, toldOf};
 use crate::answer::Call;
 use crate::answer::Outcome;
 use crate::answer::Request;
@@ -30,4 +30,14 @@ pub fn answer_request(plant: Plant, request: Request) -> Outcome
         Call::Release(k) => release(plant, k),
         Call::Recycle(k) => recycle(plant, k),
     }
+}
+
+// What the request's call would answer, and the vector that it would hand out; the record comes back as it was handed in.
+pub fn preview(plant: Plant, request: Request) -> Outcome
+    ensures { λ r. ⌜ r ≡ previewOf house plant request ⌝ }
+    ensures { λ r. ⌜ told (r .answer) ≡ toldOf house plant request ⌝ }
+{
+    let mut outcome = answer_request(plant, request);
+    outcome.plant = plant;
+    outcome
 }

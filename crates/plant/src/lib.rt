@@ -8,7 +8,7 @@
 //   returning  digester to reject
 //   releasing  reject handed out
 //   recycling  reject back into the sludge tank
-//   calls      any of the six, by a request
+//   calls      any of the six, by a request, and a preview of it
 //   holding    what is in the tanks
 mod answer;
 mod calls;
@@ -30,6 +30,7 @@ pub use answer::refusal;
 pub use answer::refusal_of;
 pub use answer::told_of;
 pub use calls::answer_request;
+pub use calls::preview;
 pub use feeding::feed;
 pub use holding::HeldTotals;
 pub use holding::held;

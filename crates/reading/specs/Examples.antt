@@ -10,10 +10,11 @@ use lib.ListN.{replicate}
 use Rattle.interface.specs.Plants.{Named, _is_, asm1Named, digesterNamed}
 use Rattle.vectors.specs.Units.{milligrams}
 use Rattle.plant.specs.declared.answer.Call.the-variants as call
-use Rattle.reading.specs.declared.form.Form.the-variants.{Asked}
+use Rattle.reading.specs.declared.form.Form.the-variants.{Asked, Previewed}
 use Rattle.reading.specs.declared.form.Line.{Line}
 use Rattle.reading.specs.Text.{ascii}
-use Rattle.reading.specs.Form.{lineOf, bare, noForm, readLine}
+use Rattle.reading.specs.Form.{lineOf, bare, noForm}
+use Rattle.reading.specs.Line.{readLine}
 
 pub record Row : Type 0 where
   pub line : String
@@ -98,6 +99,27 @@ examples =
     ∷ ("(settle (ssu 4))" asks noForm)
     ∷ ("(feed 1" asks noForm)
     ∷ ("feed 1)" asks noForm)
+    -- previews
+    ∷ ("(preview (feed 1))" asks bare (Previewed (call.Feed 1)))
+    ∷ ("(preview (return 2))" asks bare (Previewed (call.Return 2)))
+    ∷ ("(preview (release 3))" asks bare (Previewed (call.Release 3)))
+    ∷ ("(preview (recycle 4))" asks bare (Previewed (call.Recycle 4)))
+    ∷ ("(preview (receive (ss 1) (xs 2)))"
+    asks lineOf (Previewed call.Receive) (asm1Named ("ss" is 1 ∷ "xs" is 2 ∷ [])) (replicate 26 0))
+    ∷ ("(preview (settle 7 (cn 2)))"
+    asks lineOf (Previewed (call.Settle (milligrams 7))) (replicate 13 0) (digesterNamed ("cn" is 2 ∷ [])))
+    ∷ ("(preview (preview (feed 1)))" asks noForm)
+    ∷ ("(preview (receive (xs 2) (ss 1)))" asks noForm)
+    ∷ ("(preview feed 1)" asks noForm)
+    ∷ ("(preview)" asks noForm)
+    ∷ ("(preview )" asks noForm)
+    ∷ ("(preview ())" asks noForm)
+    ∷ ("(preview  (feed 1))" asks noForm)
+    ∷ ("(preview (feed 1) )" asks noForm)
+    ∷ ("(preview (feed 1) (feed 1))" asks noForm)
+    ∷ ("(preview(feed 1))" asks noForm)
+    ∷ ("(preview (feed 1)" asks noForm)
+    ∷ ("(previews (feed 1))" asks noForm)
     ∷ []
 
 abbrev pub AllHold : List Row → Type 0

@@ -1,4 +1,4 @@
--- Lines in brackets: document 01, "Lines in brackets", as document 02 amends it.
+-- Fields and forms: document 01, "Lines in brackets", as document 02 amends it.
 --
 --   readField     inside a bracket: a name, a space, a number
 --   anyFields     none or more fields, each behind a space, each column at most once
@@ -6,12 +6,7 @@
 --   readFields    fields in that order
 --   fieldFrom     a field where its column is n or behind it
 --   numberWords   the words of the forms with a number alone: (feed N), (return N), (release N), and (recycle N) of document 02, E1
---   formBy        inside the outer bracket: (receive F..), (settle N F..), or one of these
---   lineBy        a whole line: at most 1,024 bytes, a bracket around them
---   readLine      a line, its fields in order
---   anyLine       a line as it was read before E2, its fields in any order
---   ordered       a line's fields, where it has any, are in order
---   OrderLaw      the lines of readLine are those of anyLine that are ordered, and read as there
+--   formBy        the form of a call, inside its bracket: (receive F..), (settle N F..), or one of these
 --
 -- The part inside a bracket is read by itself.
 use mathlib.Core.Bool.{Bool, true, false, cond, _&&_}
@@ -169,7 +164,7 @@ settlePart u = drop (length (upTo space u)) u
 unfoldable pub settleBy : Reader → List ℕ → Line
 settleBy fields u = settleLine (readNumber (upTo space u)) (fields (namesOf Digester) (settlePart u))
 
--- inside the outer bracket t: the word w up to the first space, and what stands behind it
+-- inside the bracket t: the word w up to the first space, and what stands behind it
 unfoldable pub formOf : Reader → List ℕ → List ℕ → Line
 formOf fields w t =
     cond (sameBytes w (ascii "receive")) (receiveLine (fields (namesOf Sludge) (drop (length w) t)))
@@ -178,34 +173,3 @@ formOf fields w t =
 
 abbrev pub formBy : Reader → List ℕ → Line
 formBy fields t = formOf fields (upTo space t) t
-
--- a bracket around the whole, and what is inside
-unfoldable pub inBrackets : List ℕ → Bool
-inBrackets s = leb 2 (length s) && leb (length s) 1024 && eqb (getD s 0 0) opening && eqb (getD s (length s - 1) 0) closing
-
-abbrev pub inner : List ℕ → List ℕ
-inner s = take (length s - 1 - 1) (drop 1 s)
-
-abbrev pub lineBy : Reader → List ℕ → Line
-lineBy fields s = cond (inBrackets s) (formBy fields (inner s)) noForm
-
-unfoldable pub readLine : List ℕ → Line
-readLine s = lineBy readFields s
-
--- ---- what the order took away: document 02, E2
-
-abbrev pub anyLine : List ℕ → Line
-anyLine s = lineBy anyFields s
-
--- the fields inside the outer bracket t are in order, where its word w has fields
-unfoldable pub formOrdered : List ℕ → List ℕ → Bool
-formOrdered w t =
-    cond (sameBytes w (ascii "receive")) (inOrder (namesOf Sludge) (drop (length w) t))
-    (cond (sameBytes w (ascii "settle")) (inOrder (namesOf Digester) (settlePart (behind space t))) true)
-
-abbrev pub ordered : List ℕ → Bool
-ordered s = formOrdered (upTo space (inner s)) (inner s)
-
--- a line in order is read as before, and any other is no form
-abbrev pub OrderLaw : Type 0
-OrderLaw = (s : List ℕ) → readLine s ≡ cond (ordered s) (anyLine s) noForm

@@ -1,11 +1,10 @@
-// One form a line.
+// The form of a call.
 ghost use mathlib.Core.Path.{_≡_};
-ghost use Prim.Native.Nat.{_+_};
-ghost use lib.ListN.{length};
+ghost use Prim.Native.Nat.{_+_, _≤_};
+ghost use lib.ListN.{length, drop};
 ghost use Rattle.reading.specs.Text.{upTo, behind};
-ghost use Rattle.reading.specs.Number.{readNumber};
 ghost use Rattle.reading.specs.Form.{bare, noForm, receiveLine, settleFields, settleLine};
-ghost use Rattle.reading.specs.Form.{callOf, numberLine, readFields, settleBy, formBy, readLine};
+ghost use Rattle.reading.specs.Form.{callOf, numberLine, readFields, settleBy, formBy};
 use crate::bytes::place;
 use crate::bytes::same;
 use crate::fields::Fields;
@@ -16,9 +15,10 @@ use crate::number::read_number;
 use plant::Call;
 use vectors::Milligrams;
 
-// What a line asks.
+// What a line asks: a call, or a preview of one.
 pub enum Form {
     Asked(Call),
+    Previewed(Call),
     NotAForm,
 }
 
@@ -29,65 +29,34 @@ pub struct Line {
     pub digester: [u64; 26],
 }
 
-// A line without its newline.
-pub fn read_line(s: &[u8]) -> Line
-    ensures { λ r. ⌜ r ≡ readLine (now (s .entry)) ⌝ }
-{
-    if s.len() < 2 {
-        return no_form();
-    }
-    if 1024 < s.len() {
-        return no_form();
-    }
-    if s[0] != 40 {
-        return no_form();
-    }
-    let e = s.len() - 1;
-    if s[e] != 41 {
-        return no_form();
-    }
-    read_form(&s[1..e])
-}
-
-// The part inside the outer bracket.
-fn read_form(t: &[u8]) -> Line
+// The form of a call inside its bracket, whose first space stands at k.
+pub fn read_form(t: &[u8], k: usize) -> Line
+    requires { ⌜ (k ≡ 0 + length (upTo 32 (now t))) × (k ≤ length (now t)) ⌝ }
     ensures { λ r. ⌜ r ≡ formBy readFields (now (t .entry)) ⌝ }
 {
-    let k = place(t, 0, 32);
     let w = &t[..k];
     if same(w, b"receive") {
         return receive_line(read_fields(Vector::Sludge, &t[k..]));
     }
+    let b = behind_space(t, k);
     if same(w, b"settle") {
-        return settle_behind(t, k);
-    }
-    number_line(w, number_behind(t, k))
-}
-
-// The number behind the first space, which stands at k.
-fn number_behind(t: &[u8], k: usize) -> Number
-    requires { ⌜ k ≡ 0 + length (upTo 32 (now t)) ⌝ }
-    ensures { λ r. ⌜ r ≡ readNumber (behind 32 (now (t .entry))) ⌝ }
-{
-    if k < t.len() {
-        let b = k + 1;
-        return read_number(&t[b..]);
-    }
-    Number::NotANumber
-}
-
-// The settle form whose number stands behind the first space, at k.
-fn settle_behind(t: &[u8], k: usize) -> Line
-    requires { ⌜ k ≡ 0 + length (upTo 32 (now t)) ⌝ }
-    ensures { λ r. ⌜ r ≡ settleBy readFields (behind 32 (now (t .entry))) ⌝ }
-{
-    if k < t.len() {
-        let b = k + 1;
         return read_settle(&t[b..]);
     }
-    no_form()
+    number_line(w, read_number(&t[b..]))
 }
 
+// The place behind the first space, which stands at k; the end where there is none.
+pub fn behind_space(t: &[u8], k: usize) -> usize
+    requires { ⌜ (k ≡ 0 + length (upTo 32 (now t))) × (k ≤ length (now t)) ⌝ }
+    ensures { λ r. ⌜ (drop r (now (t .entry)) ≡ behind 32 (now (t .entry))) × (r ≤ length (now (t .entry))) ⌝ }
+{
+    if k < t.len() {
+        return k + 1;
+    }
+    k
+}
+
+// The settle form behind its word and the space.
 fn read_settle(u: &[u8]) -> Line
     ensures { λ r. ⌜ r ≡ settleBy readFields (now (u .entry)) ⌝ }
 {
@@ -97,7 +66,7 @@ fn read_settle(u: &[u8]) -> Line
     settle_line(n, f)
 }
 
-fn no_form() -> Line
+pub fn no_form() -> Line
     ensures { λ r. ⌜ r ≡ noForm ⌝ }
 {
     Line {

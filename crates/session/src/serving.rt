@@ -21,7 +21,7 @@ fn answer_word() {
             return;
         }
         if check::same(&word[..n], b"--version") {
-            write_all(b"sludgeline 0.8.0\n");
+            write_all(b"sludgeline 0.9.0\n");
             return;
         }
     }
@@ -49,7 +49,8 @@ usage: sludgeline < CALLS > ANSWERS    or --help, or --version\n\
 (settle N F..)  the digester as a solver proposes it, N mg of COD as gas\n\
 (return N)      N thousandths of the digester, converted, into the reject tank\n\
 (release N)     N thousandths of the reject tank handed out\n\
-(recycle N)     N thousandths of the reject tank back into the sludge tank\n",
+(recycle N)     N thousandths of the reject tank back into the sludge tank\n\
+(preview FORM)  what one of these would answer; nothing is changed\n",
     )
 }
 

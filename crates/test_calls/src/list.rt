@@ -1,4 +1,4 @@
-// A list of calls from a fresh record, with the sums of demand 3 added up from the calls and their answers.
+// A list of calls and previews from a fresh record, with the sums of demand 3 added up from the calls and their answers.
 use plant::Answer;
 use plant::Call;
 use plant::Plant;
@@ -62,10 +62,12 @@ fn one_call(run: Run, x: u64, i: u64) -> Run {
     called(run, request(p, x, i % 8))
 }
 
-// A call, and what it adds to the sums.
+// A call behind its preview, and what it adds to the sums; the preview adds nothing.
 pub fn called(run: Run, r: Request) -> Run {
     let p = run.plant;
-    let o = plant::answer_request(p, r);
+    let seen = plant::preview(p, r);
+    let kept = seen.plant;
+    let o = plant::answer_request(kept, r);
     let a = o.answer;
     let v = o.vector;
     let after = o.plant;

@@ -1,5 +1,5 @@
-// Tests of the plant record: small examples of each call and refusal, and two lists of calls whose four balances are added up here, from
-// the calls and their answers, and compared with what is in the tanks.
+// Tests of the plant record: small examples of each call and refusal, each with its preview, and two lists of calls and previews whose
+// four balances are added up here, from the calls and their answers, and compared with what is in the tanks.
 mod list;
 mod round;
 mod small;

@@ -3,6 +3,7 @@ use crate::write::answer;
 use crate::write::call_name;
 use crate::write::same;
 use plant::Call;
+use plant::Outcome;
 use plant::Plant;
 use plant::Request;
 
@@ -114,7 +115,7 @@ const ROWS: [[u64; 12]; 85] = [
     [3, 0, MOST, 0, 0, 0, 6, 1, 0, 0, 1, 0],
 ];
 
-// Makes each row's record, calls it, and writes the answer and whether the record is the one handed in.
+// Makes each row's record, previews the call and makes it, and writes both answers and whether the record is the one handed in.
 pub fn examples() {
     let mut i: usize = 0;
     while i < 85 {
@@ -136,12 +137,18 @@ fn example(row: [u64; 12]) {
     let one = with_column(empty, row[0], row[1], row[2]);
     let two = with_column(one, row[3], row[4], row[5]);
     let r = request(row);
+    test_show::text(b"preview ");
+    shown(two, r, plant::preview(two, r));
+    shown(two, r, plant::answer_request(two, r));
+}
+
+// Writes a call with its answer, and whether the record is the one handed in.
+fn shown(before: Plant, r: Request, o: Outcome) {
     let call = r.call;
     call_name(call);
-    let o = plant::answer_request(two, r);
     answer(o);
     let after = o.plant;
-    if same(two, after) {
+    if same(before, after) {
         test_show::text(b", kept\n");
     } else {
         test_show::text(b", moved\n");

@@ -56,8 +56,9 @@ fn text_for(program: &Program, word: &str) -> Result<String, Trouble> {
 
 /// The words that the help must have: the forms' and the refusals' numbers.
 fn must_have() -> Vec<String> {
-    let forms = ["receive", "feed", "settle", "return", "release", "recycle"].map(String::from);
-    forms.into_iter().chain((1..=12).map(|number| number.to_string())).collect()
+    let forms = ["receive", "feed", "settle", "return", "release", "recycle", "preview"];
+    let numbers = (1..=12).map(|number| number.to_string());
+    forms.map(String::from).into_iter().chain(numbers).collect()
 }
 
 /// Help: every form and refusal, on one screen.

@@ -230,7 +230,7 @@ fn damage_bytes(random: &mut Random, line: &mut Vec<u8>) {
 const LENGTHS: [usize; 10] = [511, 512, 1022, 1023, 1024, 1025, 1026, 2048, 4097, 8193];
 
 /// Makes a line as long as one of `LENGTHS`, with bytes put behind it, within it or before it.
-fn lengthen(random: &mut Random, line: &mut Vec<u8>) {
+pub fn lengthen(random: &mut Random, line: &mut Vec<u8>) {
     let missing = random.one_of(&LENGTHS).saturating_sub(line.len());
     let filling = vec![random.one_of(b" 0(x)\0\xff"); missing];
     let place = random.one_of(&[0, line.len() - 1, line.len()]);

@@ -5,6 +5,7 @@
 //! - `proposals`: settles that close or just do not, and proposals to be closed;
 //! - `damage`: lines that are no forms any more, or nearly not;
 //! - `order`: lines whose fields stand in another order than their columns;
+//! - `previews`: lines as previews, or nearly so;
 //! - here: a call written as a line, and the choice of the next record, line, call and
 //!   vector.
 
@@ -12,6 +13,7 @@ pub mod amounts;
 pub mod damage;
 pub mod edges;
 pub mod order;
+pub mod previews;
 pub mod proposals;
 
 use crate::plant::{Call, Plant};
@@ -38,6 +40,8 @@ pub struct Trial {
     pub random: Random,
     scale: Scale,
     steps: VecDeque<Step>,
+    /// The line that the last one was the preview of, where it comes next.
+    behind: Option<Vec<u8>>,
 }
 
 /// Writes a call as a line, its fields in the order of their columns and its zeros now and then.
@@ -85,7 +89,7 @@ impl Trial {
     /// A source of lines whose ordinary amounts are of one scale.
     pub fn new(mut random: Random) -> Trial {
         let scale = Scale::any(&mut random);
-        Trial { random, scale, steps: VecDeque::new() }
+        Trial { random, scale, steps: VecDeque::new(), behind: None }
     }
 
     /// A record to begin with or to go on with: of any size, at an edge, or above a ceiling.
@@ -117,9 +121,24 @@ impl Trial {
         plant
     }
 
-    /// The next line for this record, without its newline. Of those with two fields or more
-    /// one in eight has them out of order.
+    /// The next line for this record, without its newline. In twenty, two come behind their own
+    /// preview, one as its preview alone, and one as nearly a preview.
     pub fn line(&mut self, plant: &Plant) -> Vec<u8> {
+        if let Some(line) = self.behind.take() {
+            return line;
+        }
+        let line = self.call_line(plant);
+        match self.random.below(20) {
+            0 | 1 => previews::preview(self.behind.insert(line)),
+            2 => previews::preview(&line),
+            3 => previews::near(&mut self.random, &line),
+            _ => line,
+        }
+    }
+
+    /// The next line that is no preview. Of those with two fields or more one in eight has them
+    /// out of order.
+    fn call_line(&mut self, plant: &Plant) -> Vec<u8> {
         if self.random.percent(4) {
             return damage::junk(&mut self.random);
         }

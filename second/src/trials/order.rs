@@ -1,7 +1,7 @@
 //! Lines whose fields stand in another order than their columns: all reversed, two
 //! neighbours swapped, one doubled, or shuffled. Each of them is refused by 11.
 
-use crate::lines;
+use crate::lines::{self, Asked};
 use crate::random::Random;
 use crate::tables::{ASM1_NAMES, DIGESTER_NAMES};
 
@@ -65,15 +65,16 @@ fn column(names: &[&str], field: &[u8]) -> usize {
 }
 
 /// Whether a line is no form for the order of its fields alone: with each column's first field,
-/// and these in the order of their columns, it is one.
+/// and these in the order of their columns, it is one. The line may be a preview.
 pub fn is_out_of_order(line: &[u8]) -> bool {
-    let Some((head, mut fields)) = cut(line).filter(|_| lines::read(line).is_none()) else {
+    let form = lines::previewed(line).unwrap_or(line);
+    let Some((head, mut fields)) = cut(form).filter(|_| lines::read(form).is_none()) else {
         return false;
     };
     let names: &[&str] = if head.starts_with(b"(receive") { &ASM1_NAMES } else { &DIGESTER_NAMES };
     fields.sort_by_key(|field| column(names, field));
     fields.dedup_by_key(|field| column(names, field));
-    lines::read(&joined(head, &fields)).is_some()
+    matches!(lines::read(&joined(head, &fields)), Some(Asked::Call(_)))
 }
 
 #[cfg(test)]
@@ -86,8 +87,13 @@ mod tests {
     /// already or is none for another reason too.
     #[test]
     fn lines_out_of_order() {
-        let out =
-            ["(receive (xs 1) (ss 2))", "(receive (ss 1) (ss 2))", "(settle 0 (xi 1) (sac 2))"];
+        let out = [
+            "(receive (xs 1) (ss 2))",
+            "(receive (ss 1) (ss 2))",
+            "(settle 0 (xi 1) (sac 2))",
+            "(preview (receive (xs 1) (ss 2)))",
+            "(preview (settle 0 (xi 1) (sac 2)))",
+        ];
         assert!(out.iter().all(|line| is_out_of_order(line.as_bytes())));
         let not = [
             "",
@@ -100,6 +106,11 @@ mod tests {
             "(receive (xs 1) (sac 2))",
             "(settle (xi 1) (sac 2))",
             "(feed (xi 1) (sac 2))",
+            "(preview (receive (ss 1) (xs 2)))",
+            "(preview (receive (xs 1) (ss 02)))",
+            "(preview (feed 1) (feed 1))",
+            "(preview (preview (feed 1) (feed 1)))",
+            "(preview (preview (receive (xs 1) (ss 2))))",
         ];
         assert!(not.iter().all(|line| !is_out_of_order(line.as_bytes())));
     }

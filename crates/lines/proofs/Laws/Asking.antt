@@ -16,7 +16,7 @@ use Rattle.plant.specs.Answer.{refused}
 use Rattle.plant.specs.Held.{heldOf}
 use Rattle.plant.specs.declared.holding.HeldTotals.{HeldTotals}
 use Rattle.reading.specs.declared.form.Line.{Line}
-use Rattle.reading.specs.Form.{readLine}
+use Rattle.reading.specs.Line.{readLine}
 use Rattle.writing.specs.Buffer.{Answered}
 use Rattle.writing.specs.Answer.{fitting, heldText}
 use Rattle.lines.specs.Asking.{formOutcome, lineOutcome, outcomeText, lineText, LineAnswered, heldRefusal, HeldAnswered}
@@ -33,9 +33,14 @@ outcome-full f m p s h = ap (λ b. cond b (refused p 12) (formOutcome f p (readL
 module _ {f : Figures} {p : Plant} {s d : List ℕ} {o : Outcome} where
   pub line-short : length d < 512 → o ≡ refused p 12 → LineAnswered f p s d (record { outcome = o; length = 0 }) d
   unfolding lineText
-  line-short h q = record { outcome = q ∙ sym (outcome-short f (length d) p s h); text = too-short d (outcomeText (formOutcome f p (readLine s))) h }
+  line-short h q =
+      record {
+        outcome = q ∙ sym (outcome-short f (length d) p s h);
+        text = too-short d (outcomeText (formOutcome f p (readLine s))) h;
+      }
 
-  pub line-full : {l : Line} {n : ℕ} {e : List ℕ} → 512 ≤ length d → l ≡ readLine s → o ≡ formOutcome f p l → Answered d (fitting (length d) (outcomeText o)) n e
+  pub line-full : {l : Line} {n : ℕ} {e : List ℕ} → 512 ≤ length d → l ≡ readLine s → o ≡ formOutcome f p l
+      → Answered d (fitting (length d) (outcomeText o)) n e
       → LineAnswered f p s d (record { outcome = o; length = n }) e
   unfolding lineText
   line-full {l} {n} {e} h r q a =
@@ -48,11 +53,13 @@ module _ {f : Figures} {p : Plant} {s d : List ℕ} {o : Outcome} where
 -- ---- the held line
 
 module _ {f : Figures} {p : Plant} {d : List ℕ} {h : HeldTotals} {n : ℕ} {e : List ℕ} where
-  pub held-short : length d < 512 → h ≡ heldOf f p → Answered d (fitting (length d) (heldText h)) n e → HeldAnswered f p d (record { refusal = 12; length = n }) e
+  pub held-short : length d < 512 → h ≡ heldOf f p → Answered d (fitting (length d) (heldText h)) n e
+      → HeldAnswered f p d (record { refusal = 12; length = n }) e
   unfolding heldRefusal
   held-short l q a = record { refusal = sym (ap (λ b. cond b 12 (heldOf f p .refusal)) (lt-ltb (length d) 512 l)); text = held-replied q a }
 
-  pub held-full : 512 ≤ length d → h ≡ heldOf f p → Answered d (fitting (length d) (heldText h)) n e → HeldAnswered f p d (record { refusal = h .refusal; length = n }) e
+  pub held-full : 512 ≤ length d → h ≡ heldOf f p → Answered d (fitting (length d) (heldText h)) n e
+      → HeldAnswered f p d (record { refusal = h .refusal; length = n }) e
   unfolding heldRefusal
   held-full l q a = record {
     refusal = ap (λ (t : HeldTotals). t .refusal) q ∙ sym (ap (λ b. cond b 12 (heldOf f p .refusal)) (le-ltb (length d) 512 l));

@@ -3,7 +3,7 @@
 --   given-cut        a line cut to 1,025 bytes is answered as the line is
 --   run-append       bytes run one part behind the other
 --   printed-whole    PrintedLaw: however an input falls into blocks, what is printed is that of its lines
---   after-requests   the record after lines is that after the calls that they ask
+--   after-entries    the record after lines is that after the calls and previews that they ask
 use mathlib.Core.Bool.{Bool, true, false, cond}
 use mathlib.Core.List.{List, [], _∷_, _++_, append-assoc}
 use mathlib.Core.Path.{_≡_, refl, sym, ap, _∙_}
@@ -18,14 +18,14 @@ use Rattle.plant.specs.declared.record.Plant.{Plant}
 use Rattle.plant.specs.declared.answer.Outcome.{Outcome}
 use Rattle.plant.specs.Balance.{after}
 use Rattle.reading.specs.declared.form.Form.{Form}
-use Rattle.reading.specs.declared.form.Form.the-variants.{Asked, NotAForm}
+use Rattle.reading.specs.declared.form.Form.the-variants.{Asked, Previewed, NotAForm}
 use Rattle.reading.specs.declared.form.Line.{Line}
 use Rattle.reading.specs.Text.{newline}
-use Rattle.reading.specs.Form.{readLine}
+use Rattle.reading.specs.Line.{readLine}
 use Rattle.lines.specs.Asking.{formOutcome, askedOutcome, outcomeText}
-use Rattle.lines.specs.Session.{cut, givenBy, answerOf, afterLine, answers, afterLines, heldLine, transcript, requestOf, requests}
+use Rattle.lines.specs.Session.{cut, givenBy, answerOf, afterLine, answers, afterLines, heldLine, transcript, entryOf, entries}
 use Rattle.lines.specs.Session.{State, start, kept, ended, run, joined, runBlocks, said, PrintedLaw}
-use Rattle.reading.proofs.Laws.Form.{line-long}
+use Rattle.reading.proofs.Laws.Line.{line-long}
 
 -- ---- a line over 1,024 bytes
 
@@ -64,7 +64,8 @@ behind out o = from [] (o .plant) (out ++ (outcomeText o ++ (newline ∷ [])))
 module _ (f : Figures) where
   -- one byte more: a newline or not
   one : (t : Bool) (input h : List ℕ) (p : Plant) (out : List ℕ) (b : ℕ)
-      → said f (run f (from [] (afterLine f p h) (out ++ answerOf f p h)) input) ≡ (out ++ answerOf f p h) ++ transcript f (afterLine f p h) (cut [] input)
+      → said f (run f (from [] (afterLine f p h) (out ++ answerOf f p h)) input)
+      ≡ (out ++ answerOf f p h) ++ transcript f (afterLine f p h) (cut [] input)
       → said f (run f (from (take 1025 (h ++ (b ∷ []))) p out) input) ≡ out ++ transcript f p (cut (h ++ (b ∷ [])) input)
       → said f (run f (cond t (ended f (from (take 1025 h) p out)) (kept (from (take 1025 h) p out) (b ∷ []))) input)
       ≡ out ++ transcript f p (cond t (h ∷ cut [] input) (cut (h ++ (b ∷ [])) input))
@@ -76,12 +77,16 @@ module _ (f : Figures) where
   one false input h p out b e q = ap (λ (l : List ℕ). said f (run f (from l p out) input)) (take-take-append 1025 h (b ∷ [])) ∙ q
 
   -- from a state that holds h, cut to what the program holds of it
-  from-held : (input h : List ℕ) (p : Plant) (out : List ℕ) → said f (run f (from (take 1025 h) p out) input) ≡ out ++ transcript f p (cut h input)
+  from-held : (input h : List ℕ) (p : Plant) (out : List ℕ)
+      → said f (run f (from (take 1025 h) p out) input) ≡ out ++ transcript f p (cut h input)
   unfolding run cut answers afterLines
   from-held [] [] p out = refl
-  from-held [] (b ∷ h) p out = ap (λ (o : Outcome). out ++ ((outcomeText o ++ (newline ∷ [])) ++ [] ++ heldLine f (o .plant))) (given-cut f p (b ∷ h))
+  from-held [] (b ∷ h) p out =
+      ap (λ (o : Outcome). out ++ ((outcomeText o ++ (newline ∷ [])) ++ [] ++ heldLine f (o .plant))) (given-cut f p (b ∷ h))
   from-held (b ∷ input) h p out =
-      one (eqb b newline) input h p out b (from-held input [] (afterLine f p h) (out ++ answerOf f p h)) (from-held input (h ++ (b ∷ [])) p out)
+      one (eqb b newline) input h p out b
+      (from-held input [] (afterLine f p h) (out ++ answerOf f p h))
+      (from-held input (h ++ (b ∷ [])) p out)
 
 blocks-joined : (f : Figures) (st : State) (bs : List (List ℕ)) → runBlocks f st bs ≡ run f st (joined bs)
 unfolding joined runBlocks run
@@ -91,14 +96,16 @@ blocks-joined f st (b ∷ bs) = blocks-joined f (run f st b) bs ∙ sym (run-app
 pub printed-whole : PrintedLaw
 printed-whole f p bs = ap (said f) (blocks-joined f (start p) bs) ∙ from-held f (joined bs) [] p []
 
--- ---- the calls that lines ask
+-- ---- the calls and previews that lines ask
 
 module _ (f : Figures) (ls : List (List ℕ)) where
-  after-request : (form : Form) (l : Line) (p : Plant) → ((q : Plant) → afterLines f q ls ≡ after f q (requests ls)) → afterLines f (askedOutcome f p form l .plant) ls ≡ after f p (requestOf form l (requests ls))
-  after-request (Asked call) l p h = h (askedOutcome f p (Asked call) l .plant)
-  after-request NotAForm l p h = h p
+  after-entry : (form : Form) (l : Line) (p : Plant) → ((q : Plant) → afterLines f q ls ≡ after f q (entries ls))
+      → afterLines f (askedOutcome f p form l .plant) ls ≡ after f p (entryOf form l (entries ls))
+  after-entry (Asked call) l p h = h (askedOutcome f p (Asked call) l .plant)
+  after-entry (Previewed call) l p h = h (askedOutcome f p (Previewed call) l .plant)
+  after-entry NotAForm l p h = h p
 
-pub after-requests : (f : Figures) (p : Plant) (ls : List (List ℕ)) → afterLines f p ls ≡ after f p (requests ls)
-unfolding afterLines requests givenBy
-after-requests f p [] = refl
-after-requests f p (l ∷ ls) = after-request f ls (readLine l .form) (readLine l) p (λ (q : Plant). after-requests f q ls)
+pub after-entries : (f : Figures) (p : Plant) (ls : List (List ℕ)) → afterLines f p ls ≡ after f p (entries ls)
+unfolding afterLines entries givenBy
+after-entries f p [] = refl
+after-entries f p (l ∷ ls) = after-entry f ls (readLine l .form) (readLine l) p (λ (q : Plant). after-entries f q ls)

@@ -1,16 +1,17 @@
--- The balances over any list of calls. Assumes nothing.
+-- The balances over any list of calls and previews. Assumes nothing.
 --
 --   Quantity      what a balance is about: a total of each vector, and what a call lets go of it
 --   Kept          one call keeps a quantity
 --   done-kept     each call does where no refusal applies
 --   step-kept     any call does
---   over          so does every list of calls
+--   over          so does every list of calls and previews
 --   cod-quantity, ..   the four quantities
---   balance       BalanceLaw
---   recycle-holds RecycleLaw
+--   balance            BalanceLaw
+--   recycle-holds      RecycleLaw
+--   previews-skipped   PreviewLaw
 use mathlib.Core.Bool.{cond}
 use mathlib.Core.List.{List, [], _∷_}
-use mathlib.Core.Path.{_≡_, refl}
+use mathlib.Core.Path.{_≡_, refl, ap}
 use Prim.Native.Nat.{ℕ, _+_, _≤_}
 use native.Mathlib.Omega.{arith}
 use borrow.Author.Tests.{ne-eqb}
@@ -35,8 +36,9 @@ use Rattle.plant.specs.declared.answer.Outcome.{Outcome}
 use Rattle.plant.specs.declared.answer.Told.{Told}
 use Rattle.plant.specs.Record.{noColumns, freshPlant, thousandths}
 use Rattle.plant.specs.Answer.{nothing, told, refused, unless, first}
-use Rattle.plant.specs.Calls.{receive, feed, settle, giveBack, release, recycle, ruleBy, stepBy, step, recycling}
-use Rattle.plant.specs.Balance.{after, sumOver, counts, ifAccepted, receivedBy, releasedBy, gasBy, BalanceLaw, RecycleLaw}
+use Rattle.plant.specs.Calls.{receive, feed, settle, giveBack, release, recycle, ruleBy, stepBy, step, previewOf, recycling}
+use Rattle.plant.specs.Balance.{Entry, calls, previews, after, sumOver, withoutPreviews}
+use Rattle.plant.specs.Balance.{counts, ifAccepted, receivedBy, releasedBy, gasBy, BalanceLaw, RecycleLaw, PreviewLaw}
 use Rattle.plant.proofs.Laws.Record.{thousandths-le}
 use Rattle.plant.proofs.Laws.Calls.{settle-passed}
 use Rattle.plant.proofs.Laws.Decision.{decide-case, first-passed, unless-passed}
@@ -110,21 +112,23 @@ module _ (f : Figures) (q : Quantity f) where
       (λ e. omega (arith, done-kept p (call.Recycle k) noColumns noColumns e, q .silent 0))
       (λ n. refl)
 
-  -- ---- a list of calls
+  -- ---- a list of calls and previews
 
   abbrev let-go : Request → Outcome → ℕ
   let-go r o = q .lost (told (o .answer)) (gasBy r o)
 
-  over : (p : Plant) (rs : List Request)
-      → inTanks p + sumOver (receivedBy (q .asm1)) f p rs
-      ≡ inTanks (after f p rs) + sumOver (releasedBy (q .asm1)) f p rs + sumOver let-go f p rs
+  over : (p : Plant) (es : List Entry)
+      → inTanks p + sumOver (receivedBy (q .asm1)) f p es
+      ≡ inTanks (after f p es) + sumOver (releasedBy (q .asm1)) f p es + sumOver let-go f p es
+  unfolding previewOf
   over p [] = omega arith
-  over p (r ∷ rs) = omega (arith, step-kept p (r .call) (r .sludge) (r .digester), over (step f p r .plant) rs)
+  over p (calls r ∷ es) = omega (arith, step-kept p (r .call) (r .sludge) (r .digester), over (step f p r .plant) es)
+  over p (previews r ∷ es) = omega (arith, over p es)
 
-  from-fresh : (rs : List Request)
-      → sumOver (receivedBy (q .asm1)) f freshPlant rs
-      ≡ inTanks (after f freshPlant rs) + sumOver (releasedBy (q .asm1)) f freshPlant rs + sumOver let-go f freshPlant rs
-  from-fresh rs = omega (arith, over freshPlant rs, q .asm1-linear .none 13, q .digester-linear .none 26)
+  from-fresh : (es : List Entry)
+      → sumOver (receivedBy (q .asm1)) f freshPlant es
+      ≡ inTanks (after f freshPlant es) + sumOver (releasedBy (q .asm1)) f freshPlant es + sumOver let-go f freshPlant es
+  from-fresh es = omega (arith, over freshPlant es, q .asm1-linear .none 13, q .digester-linear .none 26)
 
 -- ---- the four quantities
 
@@ -192,25 +196,27 @@ nitrate-quantity f h =
 -- ---- the law
 
 -- the three sums of COD that is let go are the sum of the three
-cod-sums : (f : Figures) (p : Plant) (rs : List Request)
-    → sumOver (λ r o. codLost (told (o .answer)) (gasBy r o)) f p rs
-    ≡ sumOver (λ r o. told (o .answer) .burnt) f p rs + sumOver gasBy f p rs + sumOver (λ r o. told (o .answer) .stripped) f p rs
+cod-sums : (f : Figures) (p : Plant) (es : List Entry)
+    → sumOver (λ r o. codLost (told (o .answer)) (gasBy r o)) f p es
+    ≡ sumOver (λ r o. told (o .answer) .burnt) f p es + sumOver gasBy f p es + sumOver (λ r o. told (o .answer) .stripped) f p es
 unfolding codLost
 cod-sums f p [] = refl
-cod-sums f p (r ∷ rs) = omega (arith, cod-sums f (step f p r .plant) rs)
+cod-sums f p (calls r ∷ es) = omega (arith, cod-sums f (step f p r .plant) es)
+cod-sums f p (previews r ∷ es) = cod-sums f (previewOf f p r .plant) es
 
-no-sum : (f : Figures) (p : Plant) (rs : List Request) → sumOver (λ r o. 0) f p rs ≡ 0
+no-sum : (f : Figures) (p : Plant) (es : List Entry) → sumOver (λ r o. 0) f p es ≡ 0
 no-sum f p [] = refl
-no-sum f p (r ∷ rs) = omega (arith, no-sum f (step f p r .plant) rs)
+no-sum f p (calls r ∷ es) = omega (arith, no-sum f (step f p r .plant) es)
+no-sum f p (previews r ∷ es) = no-sum f (previewOf f p r .plant) es
 
 pub balance : BalanceLaw
 unfolding cod-quantity tkn-quantity oxygen-quantity nitrate-quantity
-balance f h rs =
+balance f h es =
     record {
-      cod = omega (arith, from-fresh f (cod-quantity f h) rs, cod-sums f freshPlant rs);
-      tkn = omega (arith, from-fresh f (tkn-quantity f h) rs, no-sum f freshPlant rs);
-      oxygen = from-fresh f (oxygen-quantity f h) rs;
-      nitrate = from-fresh f (nitrate-quantity f h) rs;
+      cod = omega (arith, from-fresh f (cod-quantity f h) es, cod-sums f freshPlant es);
+      tkn = omega (arith, from-fresh f (tkn-quantity f h) es, no-sum f freshPlant es);
+      oxygen = from-fresh f (oxygen-quantity f h) es;
+      nitrate = from-fresh f (nitrate-quantity f h) es;
     }
 
 pub recycle-holds : RecycleLaw
@@ -222,3 +228,21 @@ recycle-holds f h p k =
       oxygen = recycle-kept f (oxygen-quantity f h) p k;
       nitrate = recycle-kept f (nitrate-quantity f h) p k;
     }
+
+-- ---- previews
+
+after-skipped : (f : Figures) (p : Plant) (es : List Entry) → after f p es ≡ after f p (withoutPreviews es)
+unfolding previewOf
+after-skipped f p [] = refl
+after-skipped f p (calls r ∷ es) = after-skipped f (step f p r .plant) es
+after-skipped f p (previews r ∷ es) = after-skipped f p es
+
+sums-skipped : (of : Request → Outcome → ℕ) (f : Figures) (p : Plant) (es : List Entry)
+    → sumOver of f p es ≡ sumOver of f p (withoutPreviews es)
+unfolding previewOf
+sums-skipped of f p [] = refl
+sums-skipped of f p (calls r ∷ es) = ap (λ n. of r (step f p r) + n) (sums-skipped of f (step f p r .plant) es)
+sums-skipped of f p (previews r ∷ es) = sums-skipped of f p es
+
+pub previews-skipped : PreviewLaw
+previews-skipped f p es = record { plant = after-skipped f p es; sums = λ of. sums-skipped of f p es }

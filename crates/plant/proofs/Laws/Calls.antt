@@ -5,6 +5,7 @@
 --   tells           TellsLaw
 --   exact           ExactLaw
 --   answered        the two clauses of a call's contract, by the first
+--   previewed       and of a preview's, by the call's
 --   settle-passed, settle-passes   what an accepted settle tells of its tests, and that no more is needed
 use mathlib.Core.Bool.{Bool, true, false, cond}
 use mathlib.Core.List.{List}
@@ -25,7 +26,7 @@ use Rattle.plant.specs.declared.answer.Outcome.{Outcome}
 use Rattle.plant.specs.declared.answer.Told.{Told}
 use Rattle.plant.specs.Record.{recordWithin}
 use Rattle.plant.specs.Answer.{nothing, told, refused, first, decide}
-use Rattle.plant.specs.Calls.{receive, feed, settle, giveBack, release, recycle, ruleBy, stepBy, step}
+use Rattle.plant.specs.Calls.{receive, feed, settle, giveBack, release, recycle, ruleBy, stepBy, step, previewOf}
 use Rattle.plant.specs.Calls.{refusalOf, tellsBy, toldOf, settling}
 use Rattle.plant.specs.Calls.{TellsLaw, ExactLaw}
 use Rattle.plant.proofs.Laws.Decision.{first-pass, first-none, first-passed, unless-passed}
@@ -70,6 +71,13 @@ exact f p r = ap (λ (t : Told). t .number) (tells f p r) ∙ number-is _ _ (tel
 pub answered : (f : Figures) (p : Plant) (r : Request) {o : Outcome} → o ≡ step f p r
     → (o ≡ step f p r) × (told (o .answer) ≡ toldOf f p r)
 answered f p r e = (e, ap (λ (x : Outcome). told (x .answer)) e ∙ tells f p r)
+
+pub previewed : (f : Figures) (p : Plant) (r : Request) {o : Outcome} → o ≡ step f p r
+    → let x : Outcome = record { answer = o .answer; vector = o .vector; plant = p } in
+    (x ≡ previewOf f p r) × (told (x .answer) ≡ toldOf f p r)
+unfolding previewOf
+previewed f p r e =
+    (ap (λ (x : Outcome). record { answer = x .answer; vector = x .vector; plant = p }) e, answered f p r e .1)
 
 -- ---- from an accepted settle to its tests
 

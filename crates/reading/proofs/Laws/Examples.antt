@@ -4,7 +4,8 @@ use Rattle.reading.specs.Text.{sameBytes, lookUp, upTo, behind, onFirst,
 use Rattle.reading.specs.Number.{allDigits, valueAfter, leads, readAfter, readNumber}
 use Rattle.reading.specs.Names.{columnFrom}
 use Rattle.reading.specs.Form.{readField, readPiece, addField, readPieces, named, rises}
-use Rattle.reading.specs.Form.{settleBy, formOf, inBrackets, readLine}
+use Rattle.reading.specs.Form.{settleBy, formOf}
+use Rattle.reading.specs.Line.{inBrackets, callBy, insideBy, readLine}
 use Rattle.reading.specs.Examples.{ExamplesHold}
 
 infixr 20 _also_
@@ -13,7 +14,7 @@ a also b = (a, b)
 
 pub examples-hold : ExamplesHold
 unfolding sameBytes lookUp upTo behind onFirst pieces allDigits valueAfter leads readAfter readNumber columnFrom
-    readField readPiece addField readPieces named rises settleBy formOf inBrackets readLine
+    readField readPiece addField readPieces named rises settleBy formOf inBrackets callBy insideBy readLine
 examples-hold =
     refl also refl also refl also refl also refl also refl also refl also refl also refl also refl also refl also refl also refl
     also
@@ -23,4 +24,6 @@ examples-hold =
     also
     refl also refl also refl also refl also refl also refl also refl also refl also refl also refl also refl also refl also refl
     also
-    refl also refl also refl also refl also refl also refl also tt
+    refl also refl also refl also refl also refl also refl also refl also refl also refl also refl also refl also refl also refl
+    also
+    refl also refl also refl also refl also refl also refl also refl also refl also refl also refl also refl also tt

@@ -6,18 +6,15 @@
 --   left                                        what is left to read in a loop over fields
 --   left-unclosed, left-go, left-stop, left-end one turn of that loop
 --   form-receive, form-settle, form-number, ..  a form, by the place of its first space
---   line-..                                     a whole line
---   order-law                                   a line in order is read as before, and any other is no form
 use mathlib.Core.Bool.{Bool, true, false, cond, _&&_, and-false}
 use mathlib.Core.List.{List, [], _∷_}
 use mathlib.Core.Path.{_≡_, refl, sym, ap, ap₂, _∙_}
 use Prim.Native.Nat.{ℕ, suc, _+_, _-_, _≤_, _<_}
 use native.Mathlib.Nat.{zero-add}
-use native.Mathlib.Numerals.{add-one}
 use native.Mathlib.Omega.{arith}
 use lib.Dec.{ltb, leb, eqb}
 use lib.ListN.{length, take, drop, getD, set, drop-of-length-le, length-drop}
-use lib.Seq.{drop-drop, take-nil}
+use lib.Seq.{drop-drop}
 use borrow.Author.Tests.{eq-eqb, ne-eqb, le-leb, lt-leb, le-ltb, lt-ltb}
 use Rattle.reading.specs.declared.number.Number.{Number}
 use Rattle.reading.specs.declared.number.Number.the-variants.{Value, NotANumber}
@@ -34,9 +31,8 @@ use Rattle.reading.specs.Names.{namesOf, columnOf, fromColumn}
 use Rattle.reading.specs.Form.{fieldOf, readField, readPiece, noFields, addField, columnIn, numberIn, atEnd, whenOk}
 use Rattle.reading.specs.Form.{readPieces, anyFields, named, rises, inOrder, readFields, fieldFrom}
 use Rattle.reading.specs.Form.{noForm, receiveLine, settleFields, settleLine, numberLine}
-use Rattle.reading.specs.Form.{settlePart, settleBy, formOf, formBy, inBrackets, inner, readLine}
-use Rattle.reading.specs.Form.{formOrdered, ordered, OrderLaw}
-use Rattle.reading.proofs.Laws.Text.{rest-of, upTo-place, behind-drop, pieces-cut, pieces-last, pieces-some}
+use Rattle.reading.specs.Form.{settleBy, formOf, formBy}
+use Rattle.reading.proofs.Laws.Text.{rest-of, upTo-place, behind-drop, behind-next, pieces-cut, pieces-last, pieces-some}
 use Rattle.reading.proofs.Laws.Number.{number-empty}
 
 -- ---- one field
@@ -57,15 +53,12 @@ field-from n (At c) NotANumber = no-number (fromColumn n (At c))
 
 -- where k is the place of its space
 module _ (names : List (List ℕ)) (n : ℕ) (s : List ℕ) (k : ℕ) (e : k ≡ 0 + length (upTo 32 s)) where
-  number-part : drop (k + 1) s ≡ behind 32 s
-  number-part = ap (λ (j : ℕ). drop j s) (add-one k ∙ ap suc (e ∙ zero-add (length (upTo 32 s)))) ∙ behind-drop 32 s
-
   pub field-split : fieldOf (fromColumn n (columnOf names (take k s))) (readNumber (take (length s - (k + 1)) (drop (k + 1) s)))
       ≡ fieldFrom n (readField names s)
   unfolding readField
   field-split =
       ap₂ (λ (x y : List ℕ). fieldOf (fromColumn n (columnOf names x)) (readNumber y))
-      (upTo-place 32 s k e) (rest-of s (k + 1) ∙ number-part)
+      (upTo-place 32 s k e) (rest-of s (k + 1) ∙ behind-next 32 s k e)
       ∙ field-from n (columnOf names (upTo 32 s)) (readNumber (behind 32 s))
 
   pub field-none : length s ≤ k → NotAField ≡ fieldFrom n (readField names s)
@@ -73,7 +66,7 @@ module _ (names : List (List ℕ)) (n : ℕ) (s : List ℕ) (k : ℕ) (e : k ≡
   field-none h =
       sym
       (ap (λ (m : Number). fieldFrom n (fieldOf (columnOf names (upTo 32 s)) m))
-      (ap readNumber (sym number-part ∙ drop-of-length-le s {i = k + 1} (omega arith)) ∙ number-empty [] refl)
+      (ap readNumber (sym (behind-next 32 s k e) ∙ drop-of-length-le s {i = k + 1} (omega arith)) ∙ number-empty [] refl)
       ∙ ap (fieldFrom n) (no-number (columnOf names (upTo 32 s))))
 
 -- ---- a space, an opening bracket and a field
@@ -144,7 +137,7 @@ abbrev pub left : List (List ℕ) → ℕ → Fields → List (List ℕ) → Fie
 left names n f ps = whenOk (rises n (named names ps)) (readPieces names f ps)
 
 -- two tests with the same end may change places
-cond-swap : {A : Type 0} (a b : Bool) (x y : A) → cond a (cond b x y) y ≡ cond b (cond a x y) y
+pub cond-swap : {A : Type 0} (a b : Bool) (x y : A) → cond a (cond b x y) y ≡ cond b (cond a x y) y
 cond-swap true b x y = refl
 cond-swap false true x y = refl
 cond-swap false false x y = refl
@@ -218,30 +211,11 @@ module _ (names : List (List ℕ)) (n : ℕ) (f : Fields) (s : List ℕ) (i : �
     pub left-stop : g .ok ≡ false → left names n f (pieces 41 (drop i s)) ≡ noFields false
     left-stop o = left-next ∙ ap (λ (b : Bool). whenOk b (left names (columnIn x + 1) g (pieces 41 (drop (e + 1) s)))) o
 
-settle-empty : settleBy readFields [] ≡ noForm
-unfolding settleBy upTo
-settle-empty = ap (λ (n : Number). settleLine n (readFields (namesOf Digester) [])) (number-empty [] refl)
-
 -- ---- a form, where k is the place of its first space
 
 module _ (t : List ℕ) (k : ℕ) (e : k ≡ 0 + length (upTo 32 t)) where
   pub rest-part : take (length t - k) (drop k t) ≡ drop (length (upTo 32 t)) t
   rest-part = rest-of t k ∙ ap (λ (j : ℕ). drop j t) (e ∙ zero-add (length (upTo 32 t)))
-
-  pub behind-part : take (length t - (k + 1)) (drop (k + 1) t) ≡ behind 32 t
-  behind-part = rest-of t (k + 1) ∙ ap (λ (j : ℕ). drop j t) (add-one k ∙ ap suc (e ∙ zero-add (length (upTo 32 t)))) ∙ behind-drop 32 t
-
-  nothing-behind : length t ≤ k → behind 32 t ≡ []
-  nothing-behind h =
-      sym behind-part
-      ∙ ap (take (length t - (k + 1))) (drop-of-length-le t {i = k + 1} (omega arith))
-      ∙ take-nil (length t - (k + 1))
-
-  pub number-none : length t ≤ k → NotANumber ≡ readNumber (behind 32 t)
-  number-none h = sym (ap readNumber (nothing-behind h) ∙ number-empty [] refl)
-
-  pub settle-none : length t ≤ k → noForm ≡ settleBy readFields (behind 32 t)
-  settle-none h = sym (ap (settleBy readFields) (nothing-behind h) ∙ settle-empty)
 
   pub settle-split : settleLine (readNumber (take k t)) (readFields (namesOf Digester) (take (length t - k) (drop k t)))
       ≡ settleBy readFields t
@@ -249,7 +223,7 @@ module _ (t : List ℕ) (k : ℕ) (e : k ≡ 0 + length (upTo 32 t)) where
   settle-split = ap₂ (λ (x y : List ℕ). settleLine (readNumber x) (readFields (namesOf Digester) y)) (upTo-place 32 t k e) rest-part
 
   -- a word test of the code is one of the definition
-  word-is : (w : List ℕ) {b : Bool} → sameBytes (take k t) w ≡ b → sameBytes (upTo 32 t) w ≡ b
+  pub word-is : (w : List ℕ) {b : Bool} → sameBytes (take k t) w ≡ b → sameBytes (upTo 32 t) w ≡ b
   word-is w h = ap (λ (x : List ℕ). sameBytes x w) (sym (upTo-place 32 t k e)) ∙ h
 
   pub form-receive : sameBytes (take k t) (ascii "receive") ≡ true
@@ -269,65 +243,3 @@ module _ (t : List ℕ) (k : ℕ) (e : k ≡ 0 + length (upTo 32 t)) where
 
 pub ok-line : {x : Line} (f : Fields) (l : Line) → f .ok ≡ true → x ≡ l → x ≡ cond (f .ok) l noForm
 ok-line f l h e = rw h e
-
--- ---- a whole line
-
-module _ (s : List ℕ) where
-  pub line-short : length s < 2 → noForm ≡ readLine s
-  unfolding readLine inBrackets
-  line-short h = simp (lt-leb 2 (length s) h)
-
-  pub line-long : 1024 < length s → noForm ≡ readLine s
-  unfolding readLine inBrackets
-  line-long h = simp (lt-leb (length s) 1024 h, and-false)
-
-  pub line-opens : (getD s 0 0 ≡ 40 → ⊥) → noForm ≡ readLine s
-  unfolding readLine inBrackets
-  line-opens h = simp (ne-eqb (getD s 0 0) 40 h, and-false)
-
-  pub line-closes : (getD s (length s - 1) 0 ≡ 41 → ⊥) → noForm ≡ readLine s
-  unfolding readLine inBrackets
-  line-closes h = simp (ne-eqb (getD s (length s - 1) 0) 41 h, and-false)
-
-  pub line-form : 2 ≤ length s → length s ≤ 1024 → getD s 0 0 ≡ 40 → getD s (length s - 1) 0 ≡ 41
-      → formBy readFields (inner s) ≡ readLine s
-  unfolding readLine inBrackets
-  line-form h k a b =
-      simp (le-leb 2 (length s) h, le-leb (length s) 1024 k, eq-eqb (getD s 0 0) 40 a, eq-eqb (getD s (length s - 1) 0) 41 b)
-
--- ---- the order of the fields
-
--- a line of fields that are read only where they are in order
-receive-when : (b : Bool) (f : Fields) → receiveLine (whenOk b f) ≡ cond b (receiveLine f) noForm
-receive-when true f = refl
-receive-when false f = refl
-
-settle-when : (b : Bool) (n : Number) (f : Fields) → settleLine n (whenOk b f) ≡ cond b (settleLine n f) noForm
-settle-when true n f = refl
-settle-when false (Value g) f = refl
-settle-when false NotANumber f = refl
-
--- the three kinds of form: with the tests of their words as they are
-form-ordered : (w t : List ℕ) → formOf readFields w t ≡ cond (formOrdered w t) (formOf anyFields w t) noForm
-unfolding formOf formOrdered settleBy
-form-ordered w t = go (sameBytes w (ascii "receive")) (sameBytes w (ascii "settle"))
-  where
-    go : (a b : Bool)
-        → cond a (receiveLine (readFields (namesOf Sludge) (drop (length w) t)))
-        (cond b (settleBy readFields (behind 32 t)) (numberLine w (readNumber (behind 32 t))))
-        ≡ cond
-        (cond a (inOrder (namesOf Sludge) (drop (length w) t)) (cond b (inOrder (namesOf Digester) (settlePart (behind 32 t))) true))
-        (cond a (receiveLine (anyFields (namesOf Sludge) (drop (length w) t)))
-        (cond b (settleBy anyFields (behind 32 t)) (numberLine w (readNumber (behind 32 t)))))
-        noForm
-    go true b = receive-when (inOrder (namesOf Sludge) (drop (length w) t)) (anyFields (namesOf Sludge) (drop (length w) t))
-    go false true =
-        settle-when (inOrder (namesOf Digester) (settlePart (behind 32 t))) (readNumber (upTo 32 (behind 32 t)))
-        (anyFields (namesOf Digester) (settlePart (behind 32 t)))
-    go false false = refl
-
-pub order-law : OrderLaw
-unfolding readLine
-order-law s =
-    ap (λ (l : Line). cond (inBrackets s) l noForm) (form-ordered (upTo 32 (inner s)) (inner s))
-    ∙ cond-swap (inBrackets s) (ordered s) (formBy anyFields (inner s)) noForm

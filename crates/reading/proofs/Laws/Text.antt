@@ -4,7 +4,7 @@
 --   same-..                         comparing two byte strings, one byte a turn
 --   look-found, look-further        a word of a table: it is the first, or a further one
 --   up-here, up-next, up-past, up-end   a search for the first b, one byte a turn
---   upTo-take, upTo-place, upTo-length, behind-drop   what a search has found, by its place
+--   upTo-take, upTo-place, upTo-length, behind-drop, behind-next, behind-end   what a search has found, by its place
 --   rest-of                         a part of a slice that goes to its end
 --   pieces-cut, pieces-last, pieces-some  cutting behind each b
 use mathlib.Core.Bool.{Bool, true, false, cond, and-false, false≢true}
@@ -120,6 +120,13 @@ pub behind-drop : (b : ℕ) (s : List ℕ) → drop (suc (length (upTo b s))) s 
 unfolding upTo behind
 behind-drop b [] = refl
 behind-drop b (c ∷ s) = drop-case (eqb c b) c (upTo b s) s (behind b s) (behind-drop b s)
+
+-- the same by the place k of the first b: behind it, and nothing behind the end
+pub behind-next : (b : ℕ) (s : List ℕ) (k : ℕ) → k ≡ 0 + length (upTo b s) → drop (k + 1) s ≡ behind b s
+behind-next b s k e = ap (λ (j : ℕ). drop j s) (add-one k ∙ ap suc (e ∙ zero-add (length (upTo b s)))) ∙ behind-drop b s
+
+pub behind-end : (b : ℕ) (s : List ℕ) (k : ℕ) → k ≡ 0 + length (upTo b s) → length s ≤ k → drop k s ≡ behind b s
+behind-end b s k e h = drop-of-length-le s h ∙ sym (drop-of-length-le s {i = k + 1} (omega arith)) ∙ behind-next b s k e
 
 -- ---- cutting
 

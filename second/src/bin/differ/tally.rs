@@ -1,21 +1,29 @@
 //! How many answers of each kind were accepted, and refused by each number.
 
-use second::lines;
+use second::lines::{self, Asked};
 use second::plant::Call;
 use second::trials::order::is_out_of_order;
+use second::trials::previews::is_nested;
 use std::ops::RangeInclusive;
 
-/// The kinds of answers: lines by the call they ask, or where they are no forms, apart those that
-/// are none for the order of their fields alone; the held line; and the functions that are called
-/// by numbers; a gap that is told stands by where it is.
-const KINDS: [&str; 25] = [
+/// The kinds of answers: lines by the call they ask or preview, or where they are no forms, apart
+/// those that are none for the order of their fields alone and previews inside previews; the held
+/// line; and the functions that are called by numbers; a gap that is told stands by where it is.
+const KINDS: [&str; 32] = [
     "receive",
     "feed",
     "settle",
     "return",
     "release",
     "recycle",
+    "preview of receive",
+    "preview of feed",
+    "preview of settle",
+    "preview of return",
+    "preview of release",
+    "preview of recycle",
     "out of order",
+    "preview in a preview",
     "no form",
     "held",
     "jilghvani_fresh",
@@ -36,16 +44,25 @@ const KINDS: [&str; 25] = [
     "  gap in sin",
 ];
 
+/// Which kind a line with this call is, and which one its preview.
+fn kinds_of_call(call: &Call) -> (&'static str, &'static str) {
+    match call {
+        Call::Receive(_) => ("receive", "preview of receive"),
+        Call::Feed(_) => ("feed", "preview of feed"),
+        Call::Settle(..) => ("settle", "preview of settle"),
+        Call::Return(_) => ("return", "preview of return"),
+        Call::Release(_) => ("release", "preview of release"),
+        Call::Recycle(_) => ("recycle", "preview of recycle"),
+    }
+}
+
 /// Which kind a line is.
 pub fn kind_of(line: &[u8]) -> &'static str {
     match lines::read(line) {
-        Some(Call::Receive(_)) => "receive",
-        Some(Call::Feed(_)) => "feed",
-        Some(Call::Settle(..)) => "settle",
-        Some(Call::Return(_)) => "return",
-        Some(Call::Release(_)) => "release",
-        Some(Call::Recycle(_)) => "recycle",
+        Some(Asked::Call(call)) => kinds_of_call(&call).0,
+        Some(Asked::Preview(call)) => kinds_of_call(&call).1,
         None if is_out_of_order(line) => "out of order",
+        None if is_nested(line) => "preview in a preview",
         None => "no form",
     }
 }
