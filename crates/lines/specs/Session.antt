@@ -31,10 +31,10 @@ use Rattle.plant.specs.declared.answer.Outcome.{Outcome}
 use Rattle.plant.specs.Record.{freshPlant}
 use Rattle.plant.specs.Answer.{refused}
 use Rattle.plant.specs.declared.holding.HeldTotals.{HeldTotals}
-use Rattle.plant.specs.Balance.{Entry, calls, previews, received, released, burnt, gas, stripped, oxygenReduced, nitrateReduced}
+use Rattle.plant.specs.Balance.{Entry, entry, received, released, burnt, gas, stripped, oxygenReduced, nitrateReduced}
 use Rattle.plant.specs.Held.{heldOf}
 use Rattle.reading.specs.declared.form.Form.{Form}
-use Rattle.reading.specs.declared.form.Form.the-variants.{Asked, Previewed, NotAForm}
+use Rattle.reading.specs.declared.form.Form.the-variants.{Asked, NotAForm}
 use Rattle.reading.specs.declared.form.Line.{Line}
 use Rattle.reading.specs.Text.{newline}
 use Rattle.reading.specs.Line.{isPreviewed, readLine, previewText}
@@ -89,8 +89,7 @@ printed f p s = transcript f p (cutLines s)
 -- ---- the calls and previews that lines ask
 
 abbrev pub entryOf : Form → Line → List Entry → List Entry
-entryOf (Asked call) l es = calls (requestOf call l) ∷ es
-entryOf (Previewed call) l es = previews (requestOf call l) ∷ es
+entryOf (Asked call b) l es = entry b (requestOf call l) ∷ es
 entryOf NotAForm l es = es
 
 unfoldable pub entries : List (List ℕ) → List Entry

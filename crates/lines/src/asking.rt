@@ -5,9 +5,8 @@ ghost use Rattle.lines.specs.Asking.{formOutcome, LineAnswered, HeldAnsw
 use plant::Outcome;
 use plant::Plant;
 use plant::Request;
-use plant::answer_request;
+use plant::answer_entry;
 use plant::held;
-use plant::preview;
 use plant::refusal;
 use reading::Form;
 use reading::Line;
@@ -46,21 +45,14 @@ fn form_outcome(plant: Plant, l: Line) -> Outcome
     let sludge = l.sludge;
     let digester = l.digester;
     match form {
-        Form::Asked(call) => answer_request(
+        Form::Asked { call, preview } => answer_entry(
             plant,
             Request {
                 call,
                 sludge,
                 digester,
             },
-        ),
-        Form::Previewed(call) => preview(
-            plant,
-            Request {
-                call,
-                sludge,
-                digester,
-            },
+            preview,
         ),
         Form::NotAForm => refusal(plant, 11),
     }

@@ -2,7 +2,7 @@
 -- (a preview counts for nothing).
 --
 --   Entry                                   what stands in a list: a call, or a preview of one
---   outcomeOf                               its outcome
+--   entry, outcomeOf                        an entry by whether it is a preview; its outcome
 --   after                                   the record after a list, each entry on the record that the one before returned
 --   sumOver                                 a number that each call and its outcome give, added up over the list; previews are skipped
 --   accepted                                an answer that tells no refusal
@@ -13,7 +13,7 @@
 --   gas                                     the gas COD handed to accepted settles
 --   stripped                                what accepted returns tell
 --   codIn, tknIn, oxygenIn, nitrateIn       what is in the tanks
---   withoutPreviews, PreviewLaw             a list without its previews: the same record is after it, and every sum is the same.
+--   withoutPreviews, SkipLaw                a list without its previews: the same record is after it, and every sum is the same.
 --                                           proofs/Laws/Balance.antt proves it: previews-skipped
 --   RecycleLaw                              a recycle, refused or not, leaves what is in the three tanks together as it was.
 --                                           proofs/Laws/Balance.antt proves it: recycle-holds
@@ -45,6 +45,10 @@ use Rattle.plant.specs.Calls.{step, previewOf, recycling}
 pub data Entry : Type 0 where
   calls : Request → Entry
   previews : Request → Entry
+
+-- by whether it is a preview
+abbrev pub entry : Bool → Request → Entry
+entry b r = cond b (previews r) (calls r)
 
 abbrev pub outcomeOf : Figures → Plant → Entry → Outcome
 outcomeOf f p (calls r) = step f p r
@@ -161,9 +165,9 @@ withoutPreviews [] = []
 withoutPreviews (calls r ∷ es) = calls r ∷ withoutPreviews es
 withoutPreviews (previews r ∷ es) = withoutPreviews es
 
-pub record SameList (f : Figures) (p : Plant) (ds es : List Entry) : Type 1 where
+pub record SameList (f : Figures) (p : Plant) (ds es : List Entry) : Type 0 where
   pub plant : after f p ds ≡ after f p es
   pub sums : (of : Request → Outcome → ℕ) → sumOver of f p ds ≡ sumOver of f p es
 
-abbrev pub PreviewLaw : Type 1
-PreviewLaw = (f : Figures) (p : Plant) (es : List Entry) → SameList f p es (withoutPreviews es)
+abbrev pub SkipLaw : Type 0
+SkipLaw = (f : Figures) (p : Plant) (es : List Entry) → SameList f p es (withoutPreviews es)

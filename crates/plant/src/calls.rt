@@ -3,6 +3,7 @@ ghost use mathlib.Core.Path.{_≡_};
 ghost use Rattle.vectors.specs.Figures.{house};
 ghost use Rattle.plant.specs.Answer.{told};
 ghost use Rattle.plant.specs.Calls.{step, previewOf, toldOf};
+ghost use Rattle.plant.specs.Balance.{entry, outcomeOf};
 use crate::answer::Call;
 use crate::answer::Outcome;
 use crate::answer::Request;
@@ -37,7 +38,17 @@ pub fn preview(plant: Plant, request: Request) -> Outcome
     ensures { λ r. ⌜ r ≡ previewOf house plant request ⌝ }
     ensures { λ r. ⌜ told (r .answer) ≡ toldOf house plant request ⌝ }
 {
+    answer_entry(plant, request, true)
+}
+
+// The call of a request, or a preview of it.
+pub fn answer_entry(plant: Plant, request: Request, preview: bool) -> Outcome
+    ensures { λ r. ⌜ r ≡ outcomeOf house plant (entry preview request) ⌝ }
+    ensures { λ r. ⌜ told (r .answer) ≡ toldOf house plant request ⌝ }
+{
     let mut outcome = answer_request(plant, request);
-    outcome.plant = plant;
+    if preview {
+        outcome.plant = plant;
+    }
     outcome
 }

@@ -29,6 +29,7 @@ pub use answer::Told;
 pub use answer::refusal;
 pub use answer::refusal_of;
 pub use answer::told_of;
+pub use calls::answer_entry;
 pub use calls::answer_request;
 pub use calls::preview;
 pub use feeding::feed;

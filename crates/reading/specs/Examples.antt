@@ -2,6 +2,7 @@
 --
 --   Row, _asks_, examples      a line, and what it asks; the table
 --   AllHold, ExamplesHold      each line of a table is read as that; each of this one is
+use mathlib.Core.Bool.{true, false}
 use mathlib.Core.List.{List, [], _∷_}
 use mathlib.Core.Path.{_≡_}
 use Prim.Native.Nat.{ℕ}
@@ -10,7 +11,7 @@ use lib.ListN.{replicate}
 use Rattle.interface.specs.Plants.{Named, _is_, asm1Named, digesterNamed}
 use Rattle.vectors.specs.Units.{milligrams}
 use Rattle.plant.specs.declared.answer.Call.the-variants as call
-use Rattle.reading.specs.declared.form.Form.the-variants.{Asked, Previewed}
+use Rattle.reading.specs.declared.form.Form.the-variants.{Asked}
 use Rattle.reading.specs.declared.form.Line.{Line}
 use Rattle.reading.specs.Text.{ascii}
 use Rattle.reading.specs.Form.{lineOf, bare, noForm}
@@ -25,13 +26,13 @@ abbrev pub _asks_ : String → Line → Row
 s asks l = record { line = s; read = l }
 
 abbrev pub receiving : List Named → Line
-receiving ns = lineOf (Asked call.Receive) (asm1Named ns) (replicate 26 0)
+receiving ns = lineOf (Asked call.Receive false) (asm1Named ns) (replicate 26 0)
 
 abbrev pub settling : ℕ → List Named → Line
-settling g ns = lineOf (Asked (call.Settle (milligrams g))) (replicate 13 0) (digesterNamed ns)
+settling g ns = lineOf (Asked (call.Settle (milligrams g)) false) (replicate 13 0) (digesterNamed ns)
 
 abbrev pub feeding : ℕ → Line
-feeding k = bare (Asked (call.Feed k))
+feeding k = bare (Asked (call.Feed k) false)
 
 abbrev pub examples : List Row
 examples =
@@ -39,10 +40,10 @@ examples =
     asks receiving ("ss" is 10000 ∷ "xs" is 30000 ∷ "so" is 5000 ∷ "sno" is 100_000_000 ∷ []))
     ∷ ("(feed 1000)" asks feeding 1000)
     ∷ ("(feed 0)" asks feeding 0)
-    ∷ ("(return 1000)" asks bare (Asked (call.Return 1000)))
-    ∷ ("(release 1000)" asks bare (Asked (call.Release 1000)))
-    ∷ ("(recycle 1000)" asks bare (Asked (call.Recycle 1000)))
-    ∷ ("(recycle 18446744073709551615)" asks bare (Asked (call.Recycle 18_446_744_073_709_551_615)))
+    ∷ ("(return 1000)" asks bare (Asked (call.Return 1000) false))
+    ∷ ("(release 1000)" asks bare (Asked (call.Release 1000) false))
+    ∷ ("(recycle 1000)" asks bare (Asked (call.Recycle 1000) false))
+    ∷ ("(recycle 18446744073709551615)" asks bare (Asked (call.Recycle 18_446_744_073_709_551_615) false))
     ∷ ("(recycle)" asks noForm)
     ∷ ("(recycle 01)" asks noForm)
     ∷ ("(recycle 1 (ss 1))" asks noForm)
@@ -100,14 +101,14 @@ examples =
     ∷ ("(feed 1" asks noForm)
     ∷ ("feed 1)" asks noForm)
     -- previews
-    ∷ ("(preview (feed 1))" asks bare (Previewed (call.Feed 1)))
-    ∷ ("(preview (return 2))" asks bare (Previewed (call.Return 2)))
-    ∷ ("(preview (release 3))" asks bare (Previewed (call.Release 3)))
-    ∷ ("(preview (recycle 4))" asks bare (Previewed (call.Recycle 4)))
+    ∷ ("(preview (feed 1))" asks bare (Asked (call.Feed 1) true))
+    ∷ ("(preview (return 2))" asks bare (Asked (call.Return 2) true))
+    ∷ ("(preview (release 3))" asks bare (Asked (call.Release 3) true))
+    ∷ ("(preview (recycle 4))" asks bare (Asked (call.Recycle 4) true))
     ∷ ("(preview (receive (ss 1) (xs 2)))"
-    asks lineOf (Previewed call.Receive) (asm1Named ("ss" is 1 ∷ "xs" is 2 ∷ [])) (replicate 26 0))
+    asks lineOf (Asked call.Receive true) (asm1Named ("ss" is 1 ∷ "xs" is 2 ∷ [])) (replicate 26 0))
     ∷ ("(preview (settle 7 (cn 2)))"
-    asks lineOf (Previewed (call.Settle (milligrams 7))) (replicate 13 0) (digesterNamed ("cn" is 2 ∷ [])))
+    asks lineOf (Asked (call.Settle (milligrams 7)) true) (replicate 13 0) (digesterNamed ("cn" is 2 ∷ [])))
     ∷ ("(preview (preview (feed 1)))" asks noForm)
     ∷ ("(preview (receive (xs 2) (ss 1)))" asks noForm)
     ∷ ("(preview feed 1)" asks noForm)

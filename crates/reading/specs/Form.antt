@@ -127,11 +127,11 @@ noForm = bare NotAForm
 
 -- (receive F..)
 abbrev pub receiveLine : Fields → Line
-receiveLine f = cond (f .ok) (lineOf (Asked call.Receive) (asm1Columns (asm1 (f .columns))) (replicate 26 0)) noForm
+receiveLine f = cond (f .ok) (lineOf (Asked call.Receive false) (asm1Columns (asm1 (f .columns))) (replicate 26 0)) noForm
 
 -- (settle N F..)
 abbrev pub settleFields : ℕ → Fields → Line
-settleFields g f = cond (f .ok) (lineOf (Asked (call.Settle (milligrams g))) (replicate 13 0) (f .columns)) noForm
+settleFields g f = cond (f .ok) (lineOf (Asked (call.Settle (milligrams g)) false) (replicate 13 0) (f .columns)) noForm
 
 abbrev pub settleLine : Number → Fields → Line
 settleLine (Value g) f = settleFields g f
@@ -140,10 +140,10 @@ settleLine NotANumber f = noForm
 -- (feed N), (return N), (release N), and (recycle N) of document 02, E1: the words, and what each asks with its number
 abbrev pub numberWords : ℕ → List (Word Form)
 numberWords k =
-    "feed" means Asked (call.Feed k)
-    ∷ "return" means Asked (call.Return k)
-    ∷ "release" means Asked (call.Release k)
-    ∷ "recycle" means Asked (call.Recycle k)
+    "feed" means Asked (call.Feed k) false
+    ∷ "return" means Asked (call.Return k) false
+    ∷ "release" means Asked (call.Release k) false
+    ∷ "recycle" means Asked (call.Recycle k) false
     ∷ []
 
 abbrev pub callOf : List ℕ → ℕ → Form

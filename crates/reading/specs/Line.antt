@@ -4,12 +4,12 @@
 --   callBy              the form of a call in its brackets
 --   previewLine         a preview of a form
 --   isPreviewed         a form that is one
---   insideBy            inside the outer bracket: (preview FORM), or the form of a call
---   lineBy              a whole line
+--   isPreview, formIn   a line is (preview FORM), and its FORM
+--   lineBy              a whole line: (preview FORM), or the form of a call
 --   readLine            a line, its fields in order
 --   previewText         (preview FORM), with any bytes for FORM
---   PreviewLaw          it is read as the preview of what those bytes are read as, so that a preview inside a preview is no form.
---                       proofs/Laws/Line.antt proves it: preview-law
+--   PreviewFormLaw      it is read as the preview of what those bytes are read as, so that a preview inside a preview is no form.
+--                       proofs/Laws/Line.antt proves it: preview-form-law
 --   anyLine             a line whose fields stand in any order
 --   ordered             a line's fields, where it has any, are in order
 --   OrderLaw            the lines of readLine are those of anyLine that are ordered, and read as there.
@@ -22,7 +22,7 @@ use lib.Dec.{leb, eqb}
 use lib.ListN.{length, take, drop, getD}
 use Rattle.reading.specs.declared.names.Vector.the-variants.{Sludge, Digester}
 use Rattle.reading.specs.declared.form.Form.{Form}
-use Rattle.reading.specs.declared.form.Form.the-variants.{Asked, Previewed, NotAForm}
+use Rattle.reading.specs.declared.form.Form.the-variants.{Asked, NotAForm}
 use Rattle.reading.specs.declared.form.Line.{Line}
 use Rattle.reading.specs.Text.{ascii, sameBytes, upTo, behind, space, opening, closing}
 use Rattle.reading.specs.Names.{namesOf}
@@ -44,27 +44,26 @@ callBy fields s = cond (inBrackets s) (formBy fields (inner s)) noForm
 
 -- a preview of a call: document 02, E3. A preview has none.
 abbrev pub previewBy : Form → Line → Line
-previewBy (Asked call) l = lineOf (Previewed call) (l .sludge) (l .digester)
-previewBy (Previewed call) l = noForm
+previewBy (Asked call b) l = cond b noForm (lineOf (Asked call true) (l .sludge) (l .digester))
 previewBy NotAForm l = noForm
 
 abbrev pub previewLine : Line → Line
 previewLine l = previewBy (l .form) l
 
 abbrev pub isPreviewed : Form → Bool
-isPreviewed (Asked call) = false
-isPreviewed (Previewed call) = true
+isPreviewed (Asked call b) = b
 isPreviewed NotAForm = false
 
-abbrev pub isPreview : List ℕ → Bool
-isPreview t = sameBytes (upTo space t) (ascii "preview")
+-- (preview FORM), and FORM: nine bytes stand before it, and a bracket behind it
+unfoldable pub isPreview : List ℕ → Bool
+isPreview s = inBrackets s && sameBytes (take 9 s) (ascii "(preview ")
 
--- inside the outer bracket t: behind the word preview and its space, the form of a call in its brackets; else the form of a call
-unfoldable pub insideBy : Reader → List ℕ → Line
-insideBy fields t = cond (isPreview t) (previewLine (callBy fields (behind space t))) (formBy fields t)
+abbrev pub formIn : List ℕ → List ℕ
+formIn s = take (length s - 1 - 9) (drop 9 s)
 
+-- a whole line: a preview, or the form of a call
 abbrev pub lineBy : Reader → List ℕ → Line
-lineBy fields s = cond (inBrackets s) (insideBy fields (inner s)) noForm
+lineBy fields s = cond (isPreview s) (previewLine (callBy fields (formIn s))) (callBy fields s)
 
 unfoldable pub readLine : List ℕ → Line
 readLine s = lineBy readFields s
@@ -77,9 +76,9 @@ bracketed t = opening ∷ (t ++ (closing ∷ []))
 abbrev pub previewText : List ℕ → List ℕ
 previewText u = bracketed (ascii "preview " ++ u)
 
--- where the whole line has at most 1,024 bytes; no longer one is a form
-abbrev pub PreviewLaw : Type 0
-PreviewLaw = (u : List ℕ) → length (previewText u) ≤ 1024 → readLine (previewText u) ≡ previewLine (readLine u)
+-- where the whole line has at most 1,024 bytes; a longer one is no form
+abbrev pub PreviewFormLaw : Type 0
+PreviewFormLaw = (u : List ℕ) → length (previewText u) ≤ 1024 → readLine (previewText u) ≡ previewLine (readLine u)
 
 -- ---- what the order took away: document 02, E2
 
@@ -93,11 +92,11 @@ formOrdered w t =
     (cond (sameBytes w (ascii "settle")) (inOrder (namesOf Digester) (settlePart (behind space t))) true)
 
 abbrev pub callOrdered : List ℕ → Bool
-callOrdered t = formOrdered (upTo space t) t
+callOrdered s = formOrdered (upTo space (inner s)) (inner s)
 
 -- of a preview those of the call inside
 abbrev pub ordered : List ℕ → Bool
-ordered s = let t = inner s in cond (isPreview t) (callOrdered (inner (behind space t))) (callOrdered t)
+ordered s = cond (isPreview s) (callOrdered (formIn s)) (callOrdered s)
 
 -- a line in order is read as where the order is free, and any other is no form
 abbrev pub OrderLaw : Type 0

@@ -15,10 +15,9 @@ use crate::number::read_number;
 use plant::Call;
 use vectors::Milligrams;
 
-// What a line asks: a call, or a preview of one.
+// What a line asks: a call, or only a preview of it.
 pub enum Form {
-    Asked(Call),
-    Previewed(Call),
+    Asked { call: Call, preview: bool },
     NotAForm,
 }
 
@@ -29,11 +28,11 @@ pub struct Line {
     pub digester: [u64; 26],
 }
 
-// The form of a call inside its bracket, whose first space stands at k.
-pub fn read_form(t: &[u8], k: usize) -> Line
-    requires { ⌜ (k ≡ 0 + length (upTo 32 (now t))) × (k ≤ length (now t)) ⌝ }
+// The form of a call inside its bracket.
+pub fn read_form(t: &[u8]) -> Line
     ensures { λ r. ⌜ r ≡ formBy readFields (now (t .entry)) ⌝ }
 {
+    let k = place(t, 0, 32);
     let w = &t[..k];
     if same(w, b"receive") {
         return receive_line(read_fields(Vector::Sludge, &t[k..]));
@@ -46,7 +45,7 @@ pub fn read_form(t: &[u8], k: usize) -> Line
 }
 
 // The place behind the first space, which stands at k; the end where there is none.
-pub fn behind_space(t: &[u8], k: usize) -> usize
+fn behind_space(t: &[u8], k: usize) -> usize
     requires { ⌜ (k ≡ 0 + length (upTo 32 (now t))) × (k ≤ length (now t)) ⌝ }
     ensures { λ r. ⌜ (drop r (now (t .entry)) ≡ behind 32 (now (t .entry))) × (r ≤ length (now (t .entry))) ⌝ }
 {
@@ -98,7 +97,10 @@ fn receive_line(f: Fields) -> Line
             c[12],
         ];
         return Line {
-            form: Form::Asked(Call::Receive),
+            form: Form::Asked {
+                call: Call::Receive,
+                preview: false,
+            },
             sludge: v,
             digester: [0; 26],
         };
@@ -122,7 +124,10 @@ fn settle_fields(g: u64, f: Fields) -> Line
     if ok {
         let d = f.columns;
         return Line {
-            form: Form::Asked(Call::Settle(Milligrams(g))),
+            form: Form::Asked {
+                call: Call::Settle(Milligrams(g)),
+                preview: false,
+            },
             sludge: [0; 13],
             digester: d,
         };
@@ -145,16 +150,28 @@ fn call_of(w: &[u8], k: u64) -> Form
     ensures { λ r. ⌜ r ≡ callOf (now (w .entry)) k ⌝ }
 {
     if same(w, b"feed") {
-        return Form::Asked(Call::Feed(k));
+        return Form::Asked {
+            call: Call::Feed(k),
+            preview: false,
+        };
     }
     if same(w, b"return") {
-        return Form::Asked(Call::Return(k));
+        return Form::Asked {
+            call: Call::Return(k),
+            preview: false,
+        };
     }
     if same(w, b"release") {
-        return Form::Asked(Call::Release(k));
+        return Form::Asked {
+            call: Call::Release(k),
+            preview: false,
+        };
     }
     if same(w, b"recycle") {
-        return Form::Asked(Call::Recycle(k));
+        return Form::Asked {
+            call: Call::Recycle(k),
+            preview: false,
+        };
     }
     Form::NotAForm
 }

@@ -18,7 +18,7 @@ use Rattle.plant.specs.declared.record.Plant.{Plant}
 use Rattle.plant.specs.declared.answer.Outcome.{Outcome}
 use Rattle.plant.specs.Balance.{after}
 use Rattle.reading.specs.declared.form.Form.{Form}
-use Rattle.reading.specs.declared.form.Form.the-variants.{Asked, Previewed, NotAForm}
+use Rattle.reading.specs.declared.form.Form.the-variants.{Asked, NotAForm}
 use Rattle.reading.specs.declared.form.Line.{Line}
 use Rattle.reading.specs.Text.{newline}
 use Rattle.reading.specs.Line.{readLine}
@@ -101,8 +101,7 @@ printed-whole f p bs = ap (said f) (blocks-joined f (start p) bs) ∙ from-held 
 module _ (f : Figures) (ls : List (List ℕ)) where
   after-entry : (form : Form) (l : Line) (p : Plant) → ((q : Plant) → afterLines f q ls ≡ after f q (entries ls))
       → afterLines f (askedOutcome f p form l .plant) ls ≡ after f p (entryOf form l (entries ls))
-  after-entry (Asked call) l p h = h (askedOutcome f p (Asked call) l .plant)
-  after-entry (Previewed call) l p h = h (askedOutcome f p (Previewed call) l .plant)
+  after-entry (Asked call b) l p h = h (askedOutcome f p (Asked call b) l .plant)
   after-entry NotAForm l p h = h p
 
 pub after-entries : (f : Figures) (p : Plant) (ls : List (List ℕ)) → afterLines f p ls ≡ after f p (entries ls)

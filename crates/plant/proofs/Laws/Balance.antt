@@ -8,7 +8,7 @@
 --   cod-quantity, ..   the four quantities
 --   balance            BalanceLaw
 --   recycle-holds      RecycleLaw
---   previews-skipped   PreviewLaw
+--   previews-skipped   SkipLaw
 use mathlib.Core.Bool.{cond}
 use mathlib.Core.List.{List, [], _∷_}
 use mathlib.Core.Path.{_≡_, refl, ap}
@@ -38,7 +38,7 @@ use Rattle.plant.specs.Record.{noColumns, freshPlant, thousandths}
 use Rattle.plant.specs.Answer.{nothing, told, refused, unless, first}
 use Rattle.plant.specs.Calls.{receive, feed, settle, giveBack, release, recycle, ruleBy, stepBy, step, previewOf, recycling}
 use Rattle.plant.specs.Balance.{Entry, calls, previews, after, sumOver, withoutPreviews}
-use Rattle.plant.specs.Balance.{counts, ifAccepted, receivedBy, releasedBy, gasBy, BalanceLaw, RecycleLaw, PreviewLaw}
+use Rattle.plant.specs.Balance.{counts, ifAccepted, receivedBy, releasedBy, gasBy, BalanceLaw, RecycleLaw, SkipLaw}
 use Rattle.plant.proofs.Laws.Record.{thousandths-le}
 use Rattle.plant.proofs.Laws.Calls.{settle-passed}
 use Rattle.plant.proofs.Laws.Decision.{decide-case, first-passed, unless-passed}
@@ -244,5 +244,5 @@ sums-skipped of f p [] = refl
 sums-skipped of f p (calls r ∷ es) = ap (λ n. of r (step f p r) + n) (sums-skipped of f (step f p r .plant) es)
 sums-skipped of f p (previews r ∷ es) = sums-skipped of f p es
 
-pub previews-skipped : PreviewLaw
+pub previews-skipped : SkipLaw
 previews-skipped f p es = record { plant = after-skipped f p es; sums = λ of. sums-skipped of f p es }

@@ -5,7 +5,7 @@ use Rattle.reading.specs.Number.{allDigits, valueAfter, leads, readAfter
 use Rattle.reading.specs.Names.{columnFrom}
 use Rattle.reading.specs.Form.{readField, readPiece, addField, readPieces, named, rises}
 use Rattle.reading.specs.Form.{settleBy, formOf}
-use Rattle.reading.specs.Line.{inBrackets, callBy, insideBy, readLine}
+use Rattle.reading.specs.Line.{inBrackets, callBy, isPreview, readLine}
 use Rattle.reading.specs.Examples.{ExamplesHold}
 
 infixr 20 _also_
@@ -14,7 +14,7 @@ a also b = (a, b)
 
 pub examples-hold : ExamplesHold
 unfolding sameBytes lookUp upTo behind onFirst pieces allDigits valueAfter leads readAfter readNumber columnFrom
-    readField readPiece addField readPieces named rises settleBy formOf inBrackets callBy insideBy readLine
+    readField readPiece addField readPieces named rises settleBy formOf inBrackets callBy isPreview readLine
 examples-hold =
     refl also refl also refl also refl also refl also refl also refl also refl also refl also refl also refl also refl also refl
     also

@@ -223,7 +223,7 @@ module _ (t : List ℕ) (k : ℕ) (e : k ≡ 0 + length (upTo 32 t)) where
   settle-split = ap₂ (λ (x y : List ℕ). settleLine (readNumber x) (readFields (namesOf Digester) y)) (upTo-place 32 t k e) rest-part
 
   -- a word test of the code is one of the definition
-  pub word-is : (w : List ℕ) {b : Bool} → sameBytes (take k t) w ≡ b → sameBytes (upTo 32 t) w ≡ b
+  word-is : (w : List ℕ) {b : Bool} → sameBytes (take k t) w ≡ b → sameBytes (upTo 32 t) w ≡ b
   word-is w h = ap (λ (x : List ℕ). sameBytes x w) (sym (upTo-place 32 t k e)) ∙ h
 
   pub form-receive : sameBytes (take k t) (ascii "receive") ≡ true

@@ -3,36 +3,38 @@
 --   brackets-short, brackets-long, brackets-open, brackets-close   the test of the brackets
 --   brackets-two                                                   what is inside them begins behind the first byte
 --   call-none, call-form                                           the form of a call in its brackets, by that test
---   inside-preview, inside-call                                    inside the outer bracket, by the place of the first space
---   line-none, line-inside, line-long                              a whole line
---   preview-law                                                    PreviewLaw
+--   preview-word, preview-short, preview-brackets, preview-ten     the test of a preview
+--   preview-called                                                 a preview of a call
+--   line-preview, line-call, line-long                             a whole line
+--   preview-form-law                                               PreviewFormLaw
 --   order-law                                                      OrderLaw
-use mathlib.Core.Bool.{Bool, true, false, cond, _&&_, and-false}
+use mathlib.Core.Bool.{Bool, true, false, cond, _&&_, and-false, false≢true}
 use mathlib.Core.List.{List, [], _∷_, _++_}
 use mathlib.Core.Path.{_≡_, refl, sym, ap, _∙_}
 use Prim.Native.Nat.{ℕ, _+_, _-_, _≤_, _<_}
 use native.Mathlib.Omega.{arith}
 use lib.Dec.{leb, eqb}
-use lib.ListN.{length, take, drop, getD, length-append}
-use lib.Seq.{getD-at, take-at}
+use lib.ListN.{length, take, drop, getD, length-append, take-append-drop}
+use lib.Seq.{getD-at, take-all, take-at, take-append-add}
 use borrow.Author.Tests.{eq-eqb, ne-eqb, le-leb, lt-leb, leb-true}
 use Rattle.vectors.proofs.Laws.Columns.{both-true}
+use Rattle.plant.specs.declared.answer.Call.{Call}
 use Rattle.reading.specs.declared.number.Number.{Number}
 use Rattle.reading.specs.declared.number.Number.the-variants.{Value, NotANumber}
 use Rattle.reading.specs.declared.names.Vector.the-variants.{Sludge, Digester}
 use Rattle.reading.specs.declared.fields.Fields.{Fields}
 use Rattle.reading.specs.declared.form.Form.{Form}
-use Rattle.reading.specs.declared.form.Form.the-variants.{Asked, Previewed, NotAForm}
+use Rattle.reading.specs.declared.form.Form.the-variants.{Asked, NotAForm}
 use Rattle.reading.specs.declared.form.Line.{Line}
 use Rattle.reading.specs.Text.{ascii, sameBytes, lookUp, upTo, behind}
 use Rattle.reading.specs.Number.{readNumber}
 use Rattle.reading.specs.Names.{namesOf}
-use Rattle.reading.specs.Form.{whenOk, anyFields, inOrder, readFields, noForm, receiveLine, settleLine, numberLine}
+use Rattle.reading.specs.Form.{whenOk, anyFields, inOrder, readFields, lineOf, noForm, receiveLine, settleLine, numberLine}
 use Rattle.reading.specs.Form.{settlePart, settleBy, formOf, formBy}
-use Rattle.reading.specs.Line.{inBrackets, inner, callBy, previewBy, previewLine, isPreview, insideBy, readLine}
-use Rattle.reading.specs.Line.{bracketed, PreviewLaw, formOrdered, callOrdered, ordered, OrderLaw}
-use Rattle.reading.proofs.Laws.Text.{same-equal}
-use Rattle.reading.proofs.Laws.Form.{cond-swap, word-is}
+use Rattle.reading.specs.Line.{inBrackets, inner, callBy, previewBy, previewLine, isPreview, formIn, readLine}
+use Rattle.reading.specs.Line.{bracketed, previewText, PreviewFormLaw, formOrdered, callOrdered, ordered, OrderLaw}
+use Rattle.reading.proofs.Laws.Text.{same-lengths, same-equal}
+use Rattle.reading.proofs.Laws.Form.{cond-swap}
 
 -- ---- brackets
 
@@ -67,31 +69,62 @@ module _ (s : List ℕ) where
   unfolding callBy
   call-form h = rw h
 
--- ---- inside the outer bracket, where k is the place of the first space
+-- ---- the test of a preview
 
-module _ (t : List ℕ) (k : ℕ) (e : k ≡ 0 + length (upTo 32 t)) where
-  pub inside-preview : sameBytes (take k t) (ascii "preview") ≡ true
-      → previewLine (callBy readFields (behind 32 t)) ≡ insideBy readFields t
-  unfolding insideBy
-  inside-preview h = rw (word-is t k e _ h)
+module _ (s : List ℕ) where
+  pub preview-word : sameBytes (take 9 s) (ascii "(preview ") ≡ false → false ≡ isPreview s
+  unfolding isPreview
+  preview-word e = simp (e, and-false)
 
-  pub inside-call : sameBytes (take k t) (ascii "preview") ≡ false → formBy readFields t ≡ insideBy readFields t
-  unfolding insideBy
-  inside-call h = rw (word-is t k e _ h)
+  pub preview-short : length s < 9 → false ≡ isPreview s
+  preview-short h =
+      let n = ap length (take-all 9 s (omega arith)) in
+      preview-word (same-lengths (take 9 s) (ascii "(preview ") (λ e. omega (arith, e, n)))
+
+  pub preview-brackets : sameBytes (take 9 s) (ascii "(preview ") ≡ true → inBrackets s ≡ isPreview s
+  unfolding isPreview
+  preview-brackets e = go (inBrackets s)
+    where
+      go : (b : Bool) → b ≡ (b && sameBytes (take 9 s) (ascii "(preview "))
+      go true = sym e
+      go false = refl
+
+  preview-split : isPreview s ≡ true → s ≡ ascii "(preview " ++ drop 9 s
+  unfolding isPreview
+  preview-split e =
+      sym (take-append-drop 9 s)
+      ∙ ap (λ (w : List ℕ). w ++ drop 9 s) (same-equal (take 9 s) (ascii "(preview ") (both-true (inBrackets s) _ e .1))
+
+  -- a bracket follows, so that there is a byte behind the space
+  pub preview-ten : isPreview s ≡ true → 10 ≤ length s
+  unfolding isPreview inBrackets
+  preview-ten e = go (drop 9 s) (preview-split e) (both-true (inBrackets s) _ e .0)
+    where
+      go : (x : List ℕ) → s ≡ ascii "(preview " ++ x → inBrackets s ≡ true → 10 ≤ length s
+      go [] q i = absurd (false≢true (ap inBrackets (sym q) ∙ i))
+      go (y ∷ ys) q i = omega (arith, ap length q)
+
+-- what a preview of a call is
+pub preview-called : (l : Line) (call : Call) (b : Bool) → l .form ≡ Asked call b → b ≡ false
+    → lineOf (Asked call true) (l .sludge) (l .digester) ≡ previewLine l
+preview-called l call b e h = sym (ap (λ (x : Form). previewBy x l) e ∙ ap (λ (x : Bool). previewBy (Asked call x) l) h)
 
 -- ---- a whole line
 
 module _ (s : List ℕ) where
-  pub line-none : inBrackets s ≡ false → noForm ≡ readLine s
+  pub line-preview : isPreview s ≡ true → previewLine (callBy readFields (formIn s)) ≡ readLine s
   unfolding readLine
-  line-none h = rw h
+  line-preview h = rw h
 
-  pub line-inside : inBrackets s ≡ true → insideBy readFields (inner s) ≡ readLine s
+  pub line-call : isPreview s ≡ false → callBy readFields s ≡ readLine s
   unfolding readLine
-  line-inside h = rw h
+  line-call h = rw h
 
   pub line-long : 1024 < length s → noForm ≡ readLine s
-  line-long h = line-none (sym (brackets-long s h))
+  unfolding isPreview
+  line-long h =
+      call-none s (sym (brackets-long s h))
+      ∙ line-call (ap (λ (b : Bool). b && sameBytes (take 9 s) (ascii "(preview ")) (sym (brackets-long s h)))
 
 -- ---- a preview in the place of a line
 
@@ -106,44 +139,64 @@ brackets-around t h =
           (getD-at (40 ∷ t) 41 [] 0 (length (bracketed t) - 1) (omega (arith, n))),
     )
 
-inner-around : (t : List ℕ) → inner (bracketed t) ≡ t
-inner-around t = take-at t (41 ∷ []) (length (bracketed t) - 1 - 1) (omega (arith, length-append t (41 ∷ [])))
+preview-around : (u : List ℕ) → length (previewText u) ≤ 1024 → isPreview (previewText u) ≡ true
+unfolding isPreview sameBytes
+preview-around u h = ap (λ (b : Bool). b && true) (brackets-around (ascii "preview " ++ u) h)
+
+form-around : (u : List ℕ) → formIn (previewText u) ≡ u
+form-around u = take-at u (41 ∷ []) (length (previewText u) - 1 - 9) (omega (arith, length-append u (41 ∷ [])))
 
 -- the word preview is no call's
-form-preview : (t : List ℕ) → isPreview t ≡ true → formBy readFields t ≡ noForm
-unfolding formOf sameBytes lookUp
-form-preview t e = ap (λ (w : List ℕ). formOf readFields w t) (same-equal (upTo 32 t) (ascii "preview") e) ∙ go (readNumber (behind 32 t))
+word-preview : (z : List ℕ) → formBy readFields (ascii "preview " ++ z) ≡ noForm
+unfolding formOf upTo behind sameBytes lookUp
+word-preview z = go (readNumber z)
   where
     go : (n : Number) → numberLine (ascii "preview") n ≡ noForm
     go (Value k) = refl
     go NotANumber = refl
 
+inner-preview : (y : ℕ) (ys : List ℕ) → inner (ascii "(preview " ++ (y ∷ ys)) ≡ ascii "preview " ++ take (length ys) (y ∷ ys)
+inner-preview y ys =
+    let n : length (ascii "(preview " ++ (y ∷ ys)) - 1 - 1 ≡ length (ascii "preview ") + length ys = omega arith in
+    ap (λ (k : ℕ). take k (ascii "preview " ++ (y ∷ ys))) n ∙ take-append-add (ascii "preview ") (y ∷ ys) (length ys)
+
+-- a preview is no call's form
+call-preview : (u : List ℕ) → isPreview u ≡ true → callBy readFields u ≡ noForm
+unfolding callBy inBrackets
+call-preview u e = go (drop 9 u) (preview-split u e)
+  where
+    either : (b : Bool) (l : Line) → l ≡ noForm → cond b l noForm ≡ noForm
+    either true l q = q
+    either false l q = refl
+
+    go : (x : List ℕ) → u ≡ ascii "(preview " ++ x → callBy readFields u ≡ noForm
+    go [] q = ap (callBy readFields) q
+    go (y ∷ ys) q =
+        either (inBrackets u) _ (ap (formBy readFields) (ap inner q ∙ inner-preview y ys) ∙ word-preview (take (length ys) (y ∷ ys)))
+
 preview-twice : (l : Line) → previewLine (previewLine l) ≡ noForm
 preview-twice l = go (l .form)
   where
     go : (x : Form) → previewLine (previewBy x l) ≡ noForm
-    go (Asked call) = refl
-    go (Previewed call) = refl
+    go (Asked call true) = refl
+    go (Asked call false) = refl
     go NotAForm = refl
 
 -- a call by itself, and as a line
 call-line : (u : List ℕ) → previewLine (callBy readFields u) ≡ previewLine (readLine u)
-unfolding callBy readLine insideBy
-call-line u = go (inBrackets u) (isPreview (inner u)) refl
+unfolding readLine
+call-line u = go (isPreview u) refl
   where
-    go : (a b : Bool) → isPreview (inner u) ≡ b
-        → previewLine (cond a (formBy readFields (inner u)) noForm)
-        ≡ previewLine (cond a (cond b (previewLine (callBy readFields (behind 32 (inner u)))) (formBy readFields (inner u))) noForm)
-    go false b e = refl
-    go true true e =
-        ap previewLine (form-preview (inner u) e) ∙ sym (preview-twice (callBy readFields (behind 32 (inner u))))
-    go true false e = refl
+    go : (b : Bool) → isPreview u ≡ b
+        → previewLine (callBy readFields u) ≡ previewLine (cond b (previewLine (callBy readFields (formIn u))) (callBy readFields u))
+    go true e = ap previewLine (call-preview u e) ∙ sym (preview-twice (callBy readFields (formIn u)))
+    go false e = refl
 
-pub preview-law : PreviewLaw
-unfolding insideBy upTo behind sameBytes
-preview-law u h =
-    let t = ascii "preview " ++ u in
-    sym (line-inside (bracketed t) (brackets-around t h)) ∙ ap (insideBy readFields) (inner-around t) ∙ call-line u
+pub preview-form-law : PreviewFormLaw
+preview-form-law u h =
+    sym (line-preview (previewText u) (preview-around u h))
+    ∙ ap (λ (x : List ℕ). previewLine (callBy readFields x)) (form-around u)
+    ∙ call-line u
 
 -- ---- the order of the fields
 
@@ -176,33 +229,25 @@ form-ordered w t = go (sameBytes w (ascii "receive")) (sameBytes w (ascii "settl
         (anyFields (namesOf Digester) (settlePart (behind 32 t)))
     go false false = refl
 
-call-ordered : (u : List ℕ) → callBy readFields u ≡ cond (callOrdered (inner u)) (callBy anyFields u) noForm
+call-ordered : (u : List ℕ) → callBy readFields u ≡ cond (callOrdered u) (callBy anyFields u) noForm
 unfolding callBy
 call-ordered u =
     ap (λ (l : Line). cond (inBrackets u) l noForm) (form-ordered (upTo 32 (inner u)) (inner u))
-    ∙ cond-swap (inBrackets u) (callOrdered (inner u)) (formBy anyFields (inner u)) noForm
+    ∙ cond-swap (inBrackets u) (callOrdered u) (formBy anyFields (inner u)) noForm
 
 preview-when : (b : Bool) (l : Line) → previewLine (cond b l noForm) ≡ cond b (previewLine l) noForm
 preview-when true l = refl
 preview-when false l = refl
 
-inside-ordered : (t : List ℕ)
-    → insideBy readFields t ≡ cond (cond (isPreview t) (callOrdered (inner (behind 32 t))) (callOrdered t)) (insideBy anyFields t) noForm
-unfolding insideBy
-inside-ordered t = go (isPreview t)
-  where
-    go : (b : Bool)
-        → cond b (previewLine (callBy readFields (behind 32 t))) (formBy readFields t)
-        ≡ cond (cond b (callOrdered (inner (behind 32 t))) (callOrdered t))
-        (cond b (previewLine (callBy anyFields (behind 32 t))) (formBy anyFields t))
-        noForm
-    go true =
-        ap previewLine (call-ordered (behind 32 t))
-        ∙ preview-when (callOrdered (inner (behind 32 t))) (callBy anyFields (behind 32 t))
-    go false = form-ordered (upTo 32 t) t
-
 pub order-law : OrderLaw
 unfolding readLine
-order-law s =
-    ap (λ (l : Line). cond (inBrackets s) l noForm) (inside-ordered (inner s))
-    ∙ cond-swap (inBrackets s) (ordered s) (insideBy anyFields (inner s)) noForm
+order-law s = go (isPreview s)
+  where
+    go : (b : Bool)
+        → cond b (previewLine (callBy readFields (formIn s))) (callBy readFields s)
+        ≡ cond (cond b (callOrdered (formIn s)) (callOrdered s))
+        (cond b (previewLine (callBy anyFields (formIn s))) (callBy anyFields s))
+        noForm
+    go true =
+        ap previewLine (call-ordered (formIn s)) ∙ preview-when (callOrdered (formIn s)) (callBy anyFields (formIn s))
+    go false = call-ordered s

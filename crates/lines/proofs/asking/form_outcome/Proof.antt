@@ -13,14 +13,8 @@ use Rattle.lines.proofs.asking.form_outcome.Tie as tie
 enum-known-form : tie.Need-enum-known-form
 enum-known-form c = search needs
 
-answer-request-requires : tie.Need-answer-request-requires
-answer-request-requires c κs = search needs
-
-enum-known-form-2 : tie.Need-enum-known-form-2
-enum-known-form-2 c = search needs
-
-preview-requires : tie.Need-preview-requires
-preview-requires c κs = search needs
+answer-entry-requires : tie.Need-answer-entry-requires
+answer-entry-requires c κs = search needs
 
 enum-told : tie.Need-enum-told
 enum-told c = search needs
@@ -33,24 +27,18 @@ by-form : (p : Plant) (l : Line) (x : Form) {o : Outcome} → l .form ≡ x → 
 by-form p l x e h = h ∙ ap (λ (y : Form). askedOutcome house p y l) (sym e)
 
 returns : tie.Need-returns
-returns c = by-form _ _ _ (c .before .before .form .given .1) (c .answer-request .ensures .0)
+returns c = by-form _ _ _ (c .before .before .form .given .1) (c .answer-entry .ensures .0)
 
 returns-2 : tie.Need-returns-2
-returns-2 c = by-form _ _ _ (c .before .before .form2 .given .1) (c .preview .ensures .0)
-
-returns-3 : tie.Need-returns-3
-returns-3 c = by-form _ _ _ (c .before .enum-told .given .1) (c .refusal .ensures)
+returns-2 c = by-form _ _ _ (c .before .enum-told .given .1) (c .refusal .ensures)
 
 pub form-outcome-spec : {M : Type 1} → statement M
 form-outcome-spec =
     tie.close
     (tie.spec
     enum-known-form
-    answer-request-requires
-    enum-known-form-2
-    preview-requires
+    answer-entry-requires
     enum-told
     refusal-requires
     returns
-    returns-2
-    returns-3)
+    returns-2)

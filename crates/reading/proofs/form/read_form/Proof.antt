@@ -9,8 +9,11 @@ use borrow.Author.Needs.{needs}
 use Rattle.reading.proofs.form.read_form.Statement.{statement}
 use Rattle.reading.proofs.form.read_form.Tie as tie
 
+place-requires : tie.Need-place-requires
+place-requires c κs = search needs
+
 slice-aggregate-w : tie.Need-slice-aggregate-w
-slice-aggregate-w c = sym (length-take-le _ _ (c .before .before .pre .1))
+slice-aggregate-w c = sym (length-take-le _ _ (c .before .place .ensures .1))
 
 slice-aggregate-same : tie.Need-slice-aggregate-same
 slice-aggregate-same c = search needs
@@ -36,10 +39,11 @@ receive-line-requires c κs = search needs
 returns : tie.Need-returns
 returns c =
     let at-test = c .before .before .before in
-    let start = at-test .before .before .before .before .before in
+    let at-place = at-test .before .before .before .before in
+    let t = at-place .before .before .args .t .now in
     c .receive-line .ensures
     ∙ ap receiveLine (c .before .read-fields .ensures)
-    ∙ form-receive (start .args .t .now) (start .args .k) (start .pre .0) (sym (at-test .before .same .ensures) ∙ at-test .if1 .taken)
+    ∙ form-receive t (at-place .place .result) (at-place .place .ensures .0) (sym (at-test .before .same .ensures) ∙ at-test .if1 .taken)
 
 behind-space-requires : tie.Need-behind-space-requires
 behind-space-requires c κs = search needs
@@ -67,10 +71,11 @@ returns-2 c =
     let at-test-2 = c .before .before in
     let at-behind = at-test-2 .before .before .before in
     let at-test = at-behind .before in
-    let start = at-test .before .before .before .before .before in
+    let at-place = at-test .before .before .before .before in
+    let t = at-place .before .before .args .t .now in
     c .read-settle .ensures
-    ∙ ap (settleBy readFields) (rest-of (start .args .t .now) (at-behind .behind-space .result) ∙ at-behind .behind-space .ensures .0)
-    ∙ form-settle (start .args .t .now) (start .args .k) (start .pre .0)
+    ∙ ap (settleBy readFields) (rest-of t (at-behind .behind-space .result) ∙ at-behind .behind-space .ensures .0)
+    ∙ form-settle t (at-place .place .result) (at-place .place .ensures .0)
     (sym (at-test .before .same .ensures) ∙ at-test .if1 .left)
     (sym (at-test-2 .before .same2 .ensures) ∙ at-test-2 .if2 .taken)
 
@@ -95,12 +100,13 @@ returns-3 c =
     let at-test-2 = at-number .before .before in
     let at-behind = at-test-2 .before .before .before in
     let at-test = at-behind .before in
-    let start = at-test .before .before .before .before .before in
+    let at-place = at-test .before .before .before .before in
+    let t = at-place .before .before .args .t .now in
     c .number-line .ensures
     ∙ ap (numberLine _)
     (at-number .read-number .ensures
-    ∙ ap readNumber (rest-of (start .args .t .now) (at-behind .behind-space .result) ∙ at-behind .behind-space .ensures .0))
-    ∙ form-number (start .args .t .now) (start .args .k) (start .pre .0)
+    ∙ ap readNumber (rest-of t (at-behind .behind-space .result) ∙ at-behind .behind-space .ensures .0))
+    ∙ form-number t (at-place .place .result) (at-place .place .ensures .0)
     (sym (at-test .before .same .ensures) ∙ at-test .if1 .left)
     (sym (at-test-2 .before .same2 .ensures) ∙ at-test-2 .if2 .left)
 
@@ -108,6 +114,7 @@ pub read-form-spec : {M : Type 1} → statement M
 read-form-spec =
     tie.close
     (tie.spec
+    place-requires
     slice-aggregate-w
     slice-aggregate-same
     same-requires

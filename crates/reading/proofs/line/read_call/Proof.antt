@@ -18,24 +18,21 @@ two c = brackets-two _ (sym (c .before .is-bracketed .ensures) ∙ c .if1 .taken
 sub-e : tie.Need-sub-e
 sub-e c = omega (arith, two c)
 
-sub-t : tie.Need-sub-t
-sub-t c = omega (arith, two c)
+sub-read-form : tie.Need-sub-read-form
+sub-read-form c = omega (arith, two c)
 
-part-t-start : tie.Need-part-t-start
-part-t-start c = omega (arith, two c)
+part-read-form-start : tie.Need-part-read-form-start
+part-read-form-start c = omega (arith, two c)
 
-part-t-end : tie.Need-part-t-end
-part-t-end c = search needs
-
-place-requires : tie.Need-place-requires
-place-requires c κs = search needs
+part-read-form-end : tie.Need-part-read-form-end
+part-read-form-end c = search needs
 
 read-form-requires : tie.Need-read-form-requires
 read-form-requires c κs = search needs
 
 returns : tie.Need-returns
 returns c =
-    let at-test = c .before .before .before in
+    let at-test = c .before .before in
     c .read-form .ensures ∙ call-form _ (sym (at-test .before .is-bracketed .ensures) ∙ at-test .if1 .taken)
 
 no-form-requires : tie.Need-no-form-requires
@@ -52,10 +49,9 @@ read-call-spec =
     (tie.spec
     is-bracketed-requires
     sub-e
-    sub-t
-    part-t-start
-    part-t-end
-    place-requires
+    sub-read-form
+    part-read-form-start
+    part-read-form-end
     read-form-requires
     returns
     no-form-requires
