@@ -8,15 +8,22 @@ use crate::form::Line;
 use crate::form::no_form;
 use crate::form::read_form;
 
-// A line without its newline.
+// A line without its newline. The form of a call is read at one place, whether a preview is around it or not.
 pub fn read_line(s: &[u8]) -> Line
     ensures { λ r. ⌜ r ≡ readLine (now (s .entry)) ⌝ }
 {
-    if is_preview(s) {
-        let e = s.len() - 1;
-        return preview_line(read_call(&s[9..e]));
+    let mut from = 0;
+    let mut to = s.len();
+    let preview = is_preview(s);
+    if preview {
+        from = 9;
+        to = to - 1;
     }
-    read_call(s)
+    let l = read_call(&s[from..to]);
+    if preview {
+        return preview_line(l);
+    }
+    l
 }
 
 // Whether a line is (preview FORM).
