@@ -11,10 +11,9 @@
 -- The part inside a bracket is read by itself.
 use mathlib.Core.Bool.{Bool, true, false, cond, _&&_}
 use mathlib.Core.List.{List, [], _∷_}
-use mathlib.Core.Path.{_≡_}
-use Prim.Native.Nat.{ℕ, _+_, _-_}
+use Prim.Native.Nat.{ℕ, _+_}
 use lib.Dec.{leb, ltb, eqb}
-use lib.ListN.{length, take, drop, getD, set, replicate}
+use lib.ListN.{length, drop, getD, set, replicate}
 use Rattle.vectors.specs.Columns.{asm1, asm1Columns}
 use Rattle.vectors.specs.Units.{milligrams}
 use Rattle.plant.specs.declared.answer.Call.the-variants as call

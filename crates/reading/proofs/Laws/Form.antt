@@ -12,10 +12,10 @@ use mathlib.Core.Path.{_≡_, refl, sym, ap, ap₂, _∙_}
 use Prim.Native.Nat.{ℕ, suc, _+_, _-_, _≤_, _<_}
 use native.Mathlib.Nat.{zero-add}
 use native.Mathlib.Omega.{arith}
-use lib.Dec.{ltb, leb, eqb}
+use lib.Dec.{ltb, leb}
 use lib.ListN.{length, take, drop, getD, set, drop-of-length-le, length-drop}
 use lib.Seq.{drop-drop}
-use borrow.Author.Tests.{eq-eqb, ne-eqb, le-leb, lt-leb, le-ltb, lt-ltb}
+use borrow.Author.Tests.{eq-eqb, ne-eqb, le-ltb, lt-ltb}
 use Rattle.reading.specs.declared.number.Number.{Number}
 use Rattle.reading.specs.declared.number.Number.the-variants.{Value, NotANumber}
 use Rattle.reading.specs.declared.names.Column.{Column}
@@ -29,8 +29,8 @@ use Rattle.reading.specs.Text.{ascii, sameBytes, upTo, behind, pieces}
 use Rattle.reading.specs.Number.{readNumber}
 use Rattle.reading.specs.Names.{namesOf, columnOf, fromColumn}
 use Rattle.reading.specs.Form.{fieldOf, readField, readPiece, noFields, addField, columnIn, numberIn, atEnd, whenOk}
-use Rattle.reading.specs.Form.{readPieces, anyFields, named, rises, inOrder, readFields, fieldFrom}
-use Rattle.reading.specs.Form.{noForm, receiveLine, settleFields, settleLine, numberLine}
+use Rattle.reading.specs.Form.{readPieces, named, rises, readFields, fieldFrom}
+use Rattle.reading.specs.Form.{noForm, receiveLine, settleLine, numberLine}
 use Rattle.reading.specs.Form.{settleBy, formOf, formBy}
 use Rattle.reading.proofs.Laws.Text.{rest-of, upTo-place, behind-drop, behind-next, pieces-cut, pieces-last, pieces-some}
 use Rattle.reading.proofs.Laws.Number.{number-empty}

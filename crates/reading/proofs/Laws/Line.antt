@@ -13,7 +13,7 @@ use mathlib.Core.List.{List, [], _∷_, _++_}
 use mathlib.Core.Path.{_≡_, refl, sym, ap, _∙_}
 use Prim.Native.Nat.{ℕ, _+_, _-_, _≤_, _<_}
 use native.Mathlib.Omega.{arith}
-use lib.Dec.{leb, eqb}
+use lib.Dec.{eqb}
 use lib.ListN.{length, take, drop, getD, length-append, take-append-drop}
 use lib.Seq.{getD-at, take-all, take-at, take-append-add}
 use borrow.Author.Tests.{eq-eqb, ne-eqb, le-leb, lt-leb, leb-true}
@@ -32,7 +32,7 @@ use Rattle.reading.specs.Names.{namesOf}
 use Rattle.reading.specs.Form.{whenOk, anyFields, inOrder, readFields, lineOf, noForm, receiveLine, settleLine, numberLine}
 use Rattle.reading.specs.Form.{settlePart, settleBy, formOf, formBy}
 use Rattle.reading.specs.Line.{inBrackets, inner, callBy, previewBy, previewLine, isPreview, formIn, readLine}
-use Rattle.reading.specs.Line.{bracketed, previewText, PreviewFormLaw, formOrdered, callOrdered, ordered, OrderLaw}
+use Rattle.reading.specs.Line.{bracketed, previewText, PreviewFormLaw, formOrdered, callOrdered, OrderLaw}
 use Rattle.reading.proofs.Laws.Text.{same-lengths, same-equal}
 use Rattle.reading.proofs.Laws.Form.{cond-swap}
 
