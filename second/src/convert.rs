@@ -77,7 +77,9 @@ pub fn inerts(v: &Asm1, saa: u64) -> Inerts {
     Inerts { xi, need: NI * (v[SI] + xi), pool }
 }
 
-/// Feed: the drawn ASM1 vector as a digester vector, with what was burnt and reduced.
+/// Feed: the drawn ASM1 vector as a digester vector, with what was burnt and reduced. It is drawn
+/// into each of its callers, so that one of them is not slower where there is another.
+#[inline(always)]
 pub fn feed(v: &Asm1) -> Result<(Digester, FeedTold), Refusal> {
     let burn = burn(v);
     let left = left_after(v, burn.burnt);

@@ -1,6 +1,7 @@
 // Feed: an ASM1 vector becomes a digester vector, in the five stages of document 01.
 ghost use mathlib.Core.Path.{_≡_};
 ghost use Prim.Native.Nat.{_+_, _-_, _*_, _/_, _≤_};
+ghost use lib.Dec.{leb};
 ghost use Rattle.vectors.specs.Columns.{Below, asm1Ceilings};
 ghost use Rattle.vectors.specs.Figures.{Permitted};
 ghost use Rattle.vectors.specs.Units.{asm1Counts, digesterCounts};
@@ -13,6 +14,7 @@ use vectors::Milligrams;
 use vectors::Ticks;
 use vectors::afforded;
 use vectors::asm1_of;
+use vectors::covers;
 use vectors::digester_array;
 use vectors::milligrams_for;
 use vectors::nitrogen;
@@ -103,6 +105,14 @@ const NITRATE_COD: u64 = 286;
 
 const NITRATE_TICKS: u64 = 1000000;
 
+// Whether COD covers nitrate: it can reduce all of it.
+fn is_covered(n: Ticks, x: Milligrams) -> bool
+    requires { ⌜ (n .0 ≤ 10000000000000000) × (x .0 ≤ 4000000000000) ⌝ }
+    ensures { λ r. ⌜ r ≡ leb (nitrateRule .cod * n .0) (nitrateRule .ticks * x .0) ⌝ }
+{
+    covers(x, n, NITRATE_COD, NITRATE_TICKS)
+}
+
 // The nitrate that COD can reduce, rounded down.
 fn reducible(x: Milligrams) -> Ticks
     requires { ⌜ x .0 ≤ 4000000000000 ⌝ }
@@ -127,20 +137,37 @@ pub struct Demand {
     pub d: Milligrams,
 }
 
-// Stage 1, what oxygen and nitrate burn.
+// Stage 1, what oxygen and nitrate burn. Each path has one division: covered nitrate is reduced whole (`CoveredLaw`), and
+// `nitrate_cod` divides; where COD is short all of it is burnt (`ShortLaw`), and `reducible` divides.
 fn demand_of(v: Asm1) -> Demand
     requires { ⌜ Low v ⌝ }
     ensures { λ r. ⌜ Demands r (stage1 nitrateRule (asm1Counts v)) ⌝ }
 {
     let a = v.ss.plus(v.xs).plus(v.xbh).plus(v.xba);
     let o = v.so.least(a);
-    let r = v.sno.least(reducible(a.less(o)));
-    let d = o.plus(nitrate_cod(r));
+    let x = a.less(o);
+    let sno = v.sno;
+    if is_covered(sno, x) {
+        return Demand {
+            a: a,
+            o: o,
+            r: sno,
+            d: o.plus(nitrate_cod(sno)),
+        };
+    }
+    let r = reducible(x);
+    short_demand(a, o, r)
+}
+
+// The same where COD is short for the nitrate: r of it is reduced, and all of the COD is burnt.
+fn short_demand(a: Milligrams, o: Milligrams, r: Ticks) -> Demand
+    ensures { λ q. ⌜ ((q .a ≡ a) × (q .o ≡ o)) × ((q .r ≡ r) × (q .d ≡ a)) ⌝ }
+{
     Demand {
         a: a,
         o: o,
         r: r,
-        d: d,
+        d: a,
     }
 }
 

@@ -1,6 +1,6 @@
 // Runs the hand-worked plants a to k of document 01 through the compiled conversions, with the house set and k = 1000, and writes
 // what each gives: the refusal, or the numbers told and the columns that are not zero. crates/interface/specs/Plants.antt is the same
-// table for the definitions.
+// table for the definitions. Under the letter n stand four feeds more, on both sides of nitrate that COD just covers.
 fn main() {
     feed(b'a', [0, 40000, 0, 0, 0, 0, 0, 5000, 100000000, 0, 0, 0, 0]);
     feed(
@@ -18,6 +18,10 @@ fn main() {
     give_back(b'j', digester_of(8, 2, 6000));
     give_back(b'k', digester_of(1, 0, 600));
     give_back(b'k', digester_of(1, 0, 599));
+    feed(b'n', [0, 143, 0, 0, 0, 0, 0, 0, 499999, 0, 0, 0, 0]);
+    feed(b'n', [0, 143, 0, 0, 0, 0, 0, 0, 500000, 0, 0, 0, 0]);
+    feed(b'n', [0, 143, 0, 0, 0, 0, 0, 0, 500001, 0, 0, 0, 0]);
+    feed(b'n', [0, 150, 0, 0, 0, 0, 0, 7, 500001, 0, 0, 0, 0]);
 }
 
 // A digester vector with these three columns, and the others zero.

@@ -40,6 +40,7 @@ pub use units::Milligrams;
 pub use units::Millimoles;
 pub use units::Ticks;
 pub use units::afforded;
+pub use units::covers;
 pub use units::milligrams_for;
 pub use units::nitrogen;
 pub use units::share;

@@ -1,8 +1,8 @@
 // One tuple struct for each unit of document 01, with its sums and tests: a sum or a test of two units does not compile. What goes from one
-// unit to the other stands here: `nitrogen`, `afforded`, `ticks_for` and `milligrams_for`. (The totals add raw columns by their weights.)
+// unit to the other stands here: `nitrogen`, `afforded`, `covers`, `ticks_for` and `milligrams_for`. (The totals add raw columns by their weights.)
 ghost use mathlib.Core.Path.{_≡_};
 ghost use Prim.Native.Nat.{_+_, _-_, _*_, _/_, _≤_, min};
-ghost use lib.Dec.{ltb, eqb};
+ghost use lib.Dec.{leb, ltb, eqb};
 
 // Milligrams of COD or of oxygen.
 pub struct Milligrams(pub u64);
@@ -125,6 +125,14 @@ pub fn share(x: Milligrams, a: u64, b: u64) -> Milligrams
     ensures { λ r. ⌜ (r .0 ≡ a * x .0 / b) × (r .0 ≤ x .0) ⌝ }
 {
     Milligrams(a * x.0 / b)
+}
+
+// Whether x covers n, at a rate of so many milligrams for so many ticks.
+pub fn covers(x: Milligrams, n: Ticks, cod: u64, ticks: u64) -> bool
+    requires { ⌜ ((x .0 ≤ 4000000000000) × (ticks ≤ 1000000)) × ((cod ≤ 1000) × (n .0 ≤ 10000000000000000)) ⌝ }
+    ensures { λ r. ⌜ r ≡ leb (cod * n .0) (ticks * x .0) ⌝ }
+{
+    cod * n.0 <= ticks * x.0
 }
 
 // The ticks of x, at a rate of so many ticks for so many milligrams, rounded down.

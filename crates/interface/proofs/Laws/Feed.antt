@@ -1,6 +1,7 @@
 -- Laws of the feed stages, and that an accepted feed keeps COD, TKN, oxygen and nitrate.
 -- Users of a stage go by these laws and not by its text. Assumes nothing.
 --
+--   stage1-covered, stage1-short  nitrate that COD covers, and nitrate that it is short for: CoveredLaw and ShortLaw
 --   stage1-..  ..  stage5-..      what each stage keeps
 --   stage1-is  ..  stage5-is      the same numbers, step by step
 --   low-is                        a vector read from an array is as low as the array
@@ -10,10 +11,12 @@
 use mathlib.Core.Bool.{Bool, true, false, cond}
 use mathlib.Core.List.{List}
 use mathlib.Core.Path.{_≡_, refl, sym, subst}
-use Prim.Native.Nat.{ℕ, _+_, _-_, _*_, _/_, _≤_, min}
+use Prim.Native.Nat.{ℕ, _+_, _-_, _*_, _/_, _≤_, _<_, min}
+use native.Mathlib.Nat.{mul-comm, mul-div-le, lt-mul-div-succ, le-div-iff-mul-le, div-lt-iff-lt-mul, div-eq-of-lt-le}
+use native.Mathlib.Nat.{min-eq-left, min-eq-right, le-of-lt}
 use native.Mathlib.Omega.{arith}
-use lib.Dec.{ltb}
-use borrow.Author.Tests.{ltb-false}
+use lib.Dec.{leb, ltb}
+use borrow.Author.Tests.{leb-true, leb-false, ltb-false}
 use Rattle.vectors.specs.declared.figures.Figures.{Figures}
 use Rattle.interface.specs.declared.feed.Fed.{Fed}
 use Rattle.vectors.specs.declared.columns.Asm1 as inAsm1
@@ -22,7 +25,7 @@ use Rattle.vectors.specs.Units.{asm1Counts}
 use Rattle.interface.specs.Structs.{Low}
 use Rattle.interface.specs.Feed.{NitrateRule, nitrateRule, ceil, warnOf, Stage1, Stage2, Stage4}
 use Rattle.interface.specs.Feed.{stage1, stage2, stage3, stage4, stage5, stages, feedRefused, feedTaken, feedAsm1, feedOf}
-use Rattle.interface.specs.Laws.{FeedLaw}
+use Rattle.interface.specs.Laws.{CoveredLaw, ShortLaw, FeedLaw}
 use Rattle.vectors.proofs.Laws.Units.{afford, share-le}
 
 -- ---- stage 1
@@ -54,10 +57,53 @@ module _ (n : NitrateRule) (v : Asm1) where
   unfolding stage1
   stage1-nitrate = omega arith
 
+  pub stage1-burnt : stage1 n v .D ≡ stage1 n v .o + ceil (n.cod * stage1 n v .r) n.ticks
+  unfolding stage1
+  stage1-burnt = refl
+
   pub stage1-cod : stage1 n v .D ≤ stage1 n v .A
       → stage1 n v .ss + stage1 n v .xs + stage1 n v .xbh + stage1 n v .xba + stage1 n v .D ≡ v.ss + v.xs + v.xbh + v.xba
   unfolding stage1
   stage1-cod h = drain-four (stage1 n v .D) v.ss v.xs v.xbh v.xba h
+
+-- ---- stage 1, nitrate: for every rule of at least one milligram, which reduces at least as many ticks
+
+module _ (n : NitrateRule) (one : 1 ≤ n.cod) where
+  -- of m ticks, x of COD reduces all, or what the quotient says
+  reduced-covered : (m x : ℕ) → n.cod * m ≤ n.ticks * x → min m (n.ticks * x / n.cod) ≡ m
+  reduced-covered m x h = min-eq-left (le-div-iff-mul-le one .1 (rw (mul-comm m n.cod) h))
+
+  reduced-short : (m x : ℕ) → n.ticks * x < n.cod * m → min m (n.ticks * x / n.cod) ≡ n.ticks * x / n.cod
+  reduced-short m x h = min-eq-right (le-of-lt (div-lt-iff-lt-mul one .1 (rw (mul-comm m n.cod) h)))
+
+  -- and that burns x
+  reduced-cod : (x : ℕ) → n.cod ≤ n.ticks → ceil (n.cod * (n.ticks * x / n.cod)) n.ticks ≡ x
+  reduced-cod x h =
+      let under = mul-div-le (n.ticks * x) n.cod in
+      let over = lt-mul-div-succ (n.ticks * x) one in
+      div-eq-of-lt-le n.ticks (omega (arith, under, over)) (omega (arith, under, over))
+
+  module _ (v : Asm1) where
+    pub stage1-covered : n.cod * v.sno ≤ n.ticks * (stage1 n v .A - stage1 n v .o) → stage1 n v .r ≡ v.sno
+    unfolding stage1
+    stage1-covered h = reduced-covered v.sno (stage1 n v .A - stage1 n v .o) h
+
+    pub stage1-quotient : n.ticks * (stage1 n v .A - stage1 n v .o) < n.cod * v.sno
+        → stage1 n v .r ≡ n.ticks * (stage1 n v .A - stage1 n v .o) / n.cod
+    unfolding stage1
+    stage1-quotient h = reduced-short v.sno (stage1 n v .A - stage1 n v .o) h
+
+    pub stage1-short : n.cod ≤ n.ticks → n.ticks * (stage1 n v .A - stage1 n v .o) < n.cod * v.sno → stage1 n v .D ≡ stage1 n v .A
+    unfolding stage1
+    stage1-short le h =
+        let x = stage1 n v .A - stage1 n v .o in
+        rw (reduced-short v.sno x h, reduced-cod x le) (omega arith)
+
+pub covered-law : CoveredLaw
+covered-law v h = stage1-covered nitrateRule (omega arith) v h
+
+pub short-law : ShortLaw
+short-law v h = stage1-short nitrateRule (omega arith) v (omega arith) h
 
 -- ---- stages 2 to 5
 
@@ -107,11 +153,30 @@ module _ (f : Figures) (v : Asm1) (s1 : Stage1) (s4 : Stage4) where
 -- ---- the stages, step by step: numbers that are made as the stage makes its own are the stage's own
 
 module _ (n : NitrateRule) (v : Asm1) where
-  pub stage1-is : {s t a o x m r k d : ℕ} → s ≡ v.ss + v.xs → t ≡ s + v.xbh → a ≡ t + v.xba → o ≡ min v.so a → x ≡ a - o
-      → m ≡ n.ticks * x / n.cod → r ≡ min v.sno m → k ≡ ceil (n.cod * r) n.ticks → d ≡ o + k
-      → (a ≡ stage1 n v .A) × (o ≡ stage1 n v .o) × (r ≡ stage1 n v .r) × (d ≡ stage1 n v .D)
+  pub stage1-is : {s t a o x : ℕ} → s ≡ v.ss + v.xs → t ≡ s + v.xbh → a ≡ t + v.xba → o ≡ min v.so a → x ≡ a - o
+      → (a ≡ stage1 n v .A) × (o ≡ stage1 n v .o) × (x ≡ stage1 n v .A - stage1 n v .o)
   unfolding stage1
-  stage1-is s t a o x m r k d = (cc, cc, cc, cc)
+  stage1-is s t a o x = (cc, cc, cc)
+
+  -- where the test says that COD covers the nitrate
+  pub stage1-covered-is : {o x k d : ℕ} {t : Bool} → 1 ≤ n.cod → o ≡ stage1 n v .o → x ≡ stage1 n v .A - stage1 n v .o
+      → t ≡ leb (n.cod * v.sno) (n.ticks * x) → t ≡ true → k ≡ ceil (n.cod * v.sno) n.ticks → d ≡ o + k
+      → (v.sno ≡ stage1 n v .r) × (d ≡ stage1 n v .D)
+  stage1-covered-is one o x t e k d =
+      let h : leb (n.cod * v.sno) (n.ticks * (stage1 n v .A - stage1 n v .o)) ≡ true = cc in
+      let r = stage1-covered n one v (leb-true _ _ h) in
+      let D = stage1-burnt n v in
+      (sym r, cc)
+
+  -- and where it says that COD is short
+  pub stage1-short-is : {a x m : ℕ} {t : Bool} → 1 ≤ n.cod → n.cod ≤ n.ticks → a ≡ stage1 n v .A
+      → x ≡ stage1 n v .A - stage1 n v .o → t ≡ leb (n.cod * v.sno) (n.ticks * x) → t ≡ false → m ≡ n.ticks * x / n.cod
+      → (m ≡ stage1 n v .r) × (a ≡ stage1 n v .D)
+  stage1-short-is one le a x t e m =
+      let h : leb (n.cod * v.sno) (n.ticks * (stage1 n v .A - stage1 n v .o)) ≡ false = cc in
+      let r = stage1-quotient n one v (leb-false _ _ h) in
+      let D = stage1-short n one v le (leb-false _ _ h) in
+      (cc, cc)
 
 module _ (f : Figures) (v : Asm1) (s1 : Stage1) where
   pub stage2-is : {ss saa ssu : ℕ} → ss ≡ s1.ss → saa ≡ min ss (v.snd / f.naa) → ssu ≡ ss - saa

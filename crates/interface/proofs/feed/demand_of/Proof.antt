@@ -1,7 +1,7 @@
 -- `interface::feed::demand_of` meets its contract. Assumes nothing.
 use Rattle.vectors.specs.Units.{asm1Counts}
 use Rattle.interface.specs.Feed.{nitrateRule}
-use Rattle.interface.proofs.Laws.Feed.{stage1-is}
+use Rattle.interface.proofs.Laws.Feed.{stage1-is, stage1-covered-is, stage1-short-is}
 use native.Mathlib.Omega.{arith}
 use borrow.Author.Needs.{needs}
 use Rattle.interface.proofs.feed.demand_of.Statement.{statement}
@@ -22,31 +22,52 @@ least-requires c κs = search needs
 less-requires : tie.Need-less-requires
 less-requires c κs = search needs
 
-reducible-requires : tie.Need-reducible-requires
-reducible-requires c κs = search needs
-
-least-requires-2 : tie.Need-least-requires-2
-least-requires-2 c κs = search needs
+is-covered-requires : tie.Need-is-covered-requires
+is-covered-requires c κs = search needs
 
 nitrate-cod-requires : tie.Need-nitrate-cod-requires
 nitrate-cod-requires c κs =
-    let at-a = c .before .before .before .before in
-    omega (arith, at-a .before .before .before .pre, c .least2 .ensures)
+    let start = c .before .before .before .before .before .before .before .before in
+    omega (arith, start .pre)
 
 plus-requires-4 : tie.Need-plus-requires-4
 plus-requires-4 c κs = search needs
 
 returns : tie.Need-returns
 returns c =
-    let at-r = c .before .before in
-    let at-o = at-r .before .before .before in
-    let at-a = at-o .before in
-    let v = at-a .before .before .before .args .v in
+    let at-test = c .before .before in
+    let at-x = at-test .before .before .before in
+    let at-a = at-x .before .before in
+    let v = asm1Counts (at-a .before .before .before .args .v) in
     let p =
-    stage1-is nitrateRule (asm1Counts v) (at-a .before .before .plus .ensures .0) (at-a .before .plus2 .ensures .0)
-    (at-a .plus3 .ensures .0) (at-o .least .ensures .0) (at-r .before .before .less .ensures .0)
-    (at-r .before .reducible .ensures) (at-r .least2 .ensures .0) (c .before .nitrate-cod .ensures .0) (c .plus4 .ensures .0) in
-    record { A = p .0; o = p .1; r = p .2; D = p .3 }
+    stage1-is nitrateRule v (at-a .before .before .plus .ensures .0) (at-a .before .plus2 .ensures .0) (at-a .plus3 .ensures .0)
+    (at-x .before .least .ensures .0) (at-x .less .ensures .0) in
+    let q =
+    stage1-covered-is nitrateRule v (omega arith) (p .1) (p .2) (at-test .before .is-covered .ensures) (at-test .if1 .taken)
+    (c .before .nitrate-cod .ensures .0) (c .plus4 .ensures .0) in
+    record { A = p .0; o = p .1; r = q .0; D = q .1 }
+
+reducible-requires : tie.Need-reducible-requires
+reducible-requires c κs = search needs
+
+short-demand-requires : tie.Need-short-demand-requires
+short-demand-requires c κs = search needs
+
+returns-2 : tie.Need-returns-2
+returns-2 c =
+    let at-r = c .before in
+    let at-test = at-r .before in
+    let at-x = at-test .before .before .before in
+    let at-a = at-x .before .before in
+    let v = asm1Counts (at-a .before .before .before .args .v) in
+    let p =
+    stage1-is nitrateRule v (at-a .before .before .plus .ensures .0) (at-a .before .plus2 .ensures .0) (at-a .plus3 .ensures .0)
+    (at-x .before .least .ensures .0) (at-x .less .ensures .0) in
+    let q =
+    stage1-short-is nitrateRule v (omega arith) (omega arith) (p .0) (p .2) (at-test .before .is-covered .ensures)
+    (at-test .if1 .left) (at-r .reducible .ensures) in
+    let e = c .short-demand .ensures in
+    rw (e .0 .0, e .0 .1, e .1 .0, e .1 .1) (record { A = p .0; o = p .1; r = q .0; D = q .1 })
 
 pub demand-of-spec : {M : Type 1} → statement M
 demand-of-spec =
@@ -57,8 +78,10 @@ demand-of-spec =
     plus-requires-3
     least-requires
     less-requires
-    reducible-requires
-    least-requires-2
+    is-covered-requires
     nitrate-cod-requires
     plus-requires-4
-    returns)
+    returns
+    reducible-requires
+    short-demand-requires
+    returns-2)
