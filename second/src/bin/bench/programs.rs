@@ -113,6 +113,14 @@ fn print_table(rounds: usize, lines: f64, results: &[(f64, f64)]) {
     );
 }
 
+/// Copies a program to a path whose length is that of all such copies. A program's path stands on
+/// its stack, so that its length moves what lies there, and with it the time by some hundredths.
+fn copied(program: &Path, number: usize) -> Result<PathBuf, String> {
+    let copy = Path::new(env!("CARGO_MANIFEST_DIR")).join(format!("target/bench.program{number}"));
+    std::fs::copy(program, &copy).map_err(|error| format!("{}: {error}", program.display()))?;
+    Ok(copy)
+}
+
 /// Times the programs on the session and prints the table.
 pub fn bench(options: &Options) -> Result<(), String> {
     let session = make_session(options.megabytes);
@@ -120,15 +128,17 @@ pub fn bench(options: &Options) -> Result<(), String> {
     let path = Path::new(env!("CARGO_MANIFEST_DIR")).join("target/bench.session");
     std::fs::write(&path, &session.bytes).map_err(|error| error.to_string())?;
     let own = std::env::current_exe().map_err(|error| error.to_string())?.with_file_name("second");
-    let mut programs = vec![options.program.clone(), own, PathBuf::from("wc")];
-    programs.extend(options.before.clone());
+    let mut programs = vec![copied(&options.program, 0)?, copied(&own, 1)?, PathBuf::from("wc")];
+    if let Some(before) = &options.before {
+        programs.push(copied(before, 2)?);
+    }
     println!("session of seed {SEED}: {bytes} bytes, {lines} lines, {} refused", session.refused);
     println!("input from the file {}, output to /dev/null", path.display());
     println!("buffers: second zeroes its two 64 KiB buffers once at start and never clears them;");
     println!("  sludgeline's buffers are zeroed once at start");
     let alike = print_alike("both print the same", &programs[..2], &path)?;
-    if let Some(before) = &options.before {
-        let earlier = [programs[0].clone(), before.clone()];
+    if let [now, _, _, before] = &programs[..] {
+        let earlier = [now.clone(), before.clone()];
         print_alike("the earlier build prints the same", &earlier, &path)?;
     }
     let time = |which: usize| timed(&programs[which], &path);
