@@ -1,5 +1,6 @@
-// One tuple struct for each unit of document 01, with its sums and tests: a sum or a test of two units does not compile. What goes from one
-// unit to the other stands here: `nitrogen`, `afforded`, `covers`, `ticks_for` and `milligrams_for`. (The totals add raw columns by their weights.)
+// One tuple struct for each unit of document 01, with its sums and tests: a sum or a test of two units does not compile. What goes
+// from one unit to the other stands here: `nitrogen`, `afforded`, `covers`, `ticks_for` and `milligrams_for`. (The totals add raw columns
+// by their weights.)
 ghost use mathlib.Core.Path.{_≡_};
 ghost use Prim.Native.Nat.{_+_, _-_, _*_, _/_, _≤_, min};
 ghost use lib.Dec.{leb, ltb, eqb};

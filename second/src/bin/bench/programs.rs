@@ -114,7 +114,7 @@ fn print_table(rounds: usize, lines: f64, results: &[(f64, f64)]) {
 }
 
 /// Copies a program to a path whose length is that of all such copies. A program's path stands on
-/// its stack, so that its length moves what lies there, and with it the time by some hundredths.
+/// its stack, so that its length moves what lies there, and with it how memory is copied.
 fn copied(program: &Path, number: usize) -> Result<PathBuf, String> {
     let copy = Path::new(env!("CARGO_MANIFEST_DIR")).join(format!("target/bench.program{number}"));
     std::fs::copy(program, &copy).map_err(|error| format!("{}: {error}", program.display()))?;
