@@ -4,9 +4,10 @@
  *   - the version,
  *   - the sizes, the places of the columns, and the layout of a plant record,
  *   - the refusals and their texts,
- *   - the functions: the two on text, the calls by numbers, the two conversions
- *     by themselves, and the two for a solver's proposal. Above each stands who
- *     owns what, what is read and written, and what a refusal leaves.
+ *   - the functions: the two on text, the six that write a call as a line, the
+ *     calls by numbers, the two conversions by themselves, and the two for a
+ *     solver's proposal. Above each stands who owns what, what is read and
+ *     written, and what a refusal leaves.
  *
  * Memory. A record is an array of 52 uint64_t that the caller owns, and so are
  * vectors, told numbers, lines and buffers. There is no other state: the library
@@ -69,9 +70,9 @@ extern "C" {
 #endif
 
 /* The version of this header, and its three numbers. */
-#define JILGHVANI_VERSION "0.9.0"
+#define JILGHVANI_VERSION "0.10.0"
 #define JILGHVANI_VERSION_MAJOR 0
-#define JILGHVANI_VERSION_MINOR 9
+#define JILGHVANI_VERSION_MINOR 10
 #define JILGHVANI_VERSION_PATCH 0
 
 /* Sizes, and the places of columns: record[JILGHVANI_DIGESTER_AT +
@@ -84,7 +85,8 @@ enum {
     JILGHVANI_DIGESTER_AT = 13,
     JILGHVANI_REJECT_AT = 39,
     JILGHVANI_COLUMNS = 52,   /* columns of a record */
-    JILGHVANI_BUFFER = 512,   /* the shortest buffer that is not refused */
+    JILGHVANI_BUFFER = 512,   /* the shortest buffer for an answer or a held line */
+    JILGHVANI_LINE_BUFFER = 1025, /* the shortest buffer for a call's line */
     JILGHVANI_LINE = 1024,    /* the longest line that is read; no form is longer
                                * than 739 bytes, so that a longer line gets refusal
                                * 11, or 12 before it where the buffer is short */
@@ -180,7 +182,7 @@ static inline const char *jilghvani_refusal_text(uint64_t refusal)
     case JILGHVANI_NO_FORM:
         return "the line is no form";
     case JILGHVANI_BUFFER_SHORT:
-        return "the buffer has fewer than 512 bytes";
+        return "the buffer has fewer than 512 bytes, or 1,025 for a call's line";
     default:
         return "no refusal has this number";
     }
@@ -220,6 +222,41 @@ size_t jilghvani_line(uint64_t record[JILGHVANI_COLUMNS],
  * refusal 12, with the buffer as it was. Refusals: 12, 1. */
 size_t jilghvani_held(const uint64_t record[JILGHVANI_COLUMNS],
                       uint8_t *buf, size_t buf_len);
+
+/* ---- Calls as lines ---- */
+
+/* Write the line that jilghvani_line reads, or sludgeline, and a newline: of each
+ * call one function, which takes what the call takes. The columns of a vector
+ * stand in order, and a column that is 0 is left away; the number of the call, k
+ * or gas, is always written. So jilghvani_write_receive of ss 10 and xs 30 writes
+ * "(receive (ss 10) (xs 30))" and a newline. Reading the line, without its
+ * newline, gives the call and its vector again, and no other line that names no
+ * column with 0 does. No call is made, and any numbers are written, those that
+ * the call would refuse too.
+ *
+ * k, gas    any number.
+ * v, d      13 or 26 columns that the caller owns; read and never written.
+ * preview   0 for the call's own line; any other number for its preview, as
+ *           "(preview (feed 1000))".
+ * buf       buf_len bytes that the caller lends; line and newline stand first in
+ *           it, without ending zero. Bytes behind the newline keep their values.
+ *           1,025 bytes hold every line.
+ *
+ * Vector and buffer must not overlap. Each gives the number of bytes written, the
+ * newline among them. Under refusal 12, buf_len below 1025, it gives 0 and leaves
+ * the buffer as it was; there is no other refusal. */
+size_t jilghvani_write_receive(const uint64_t v[JILGHVANI_ASM1],
+                               uint64_t preview, uint8_t *buf, size_t buf_len);
+size_t jilghvani_write_feed(uint64_t k,
+                            uint64_t preview, uint8_t *buf, size_t buf_len);
+size_t jilghvani_write_settle(uint64_t gas, const uint64_t d[JILGHVANI_DIGESTER],
+                              uint64_t preview, uint8_t *buf, size_t buf_len);
+size_t jilghvani_write_return(uint64_t k,
+                              uint64_t preview, uint8_t *buf, size_t buf_len);
+size_t jilghvani_write_release(uint64_t k,
+                               uint64_t preview, uint8_t *buf, size_t buf_len);
+size_t jilghvani_write_recycle(uint64_t k,
+                               uint64_t preview, uint8_t *buf, size_t buf_len);
 
 /* ---- The calls by numbers ---- */
 

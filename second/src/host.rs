@@ -2,9 +2,9 @@
 //!
 //! Each function is declared once. What it is lent is a reference to an array of the
 //! length that the library takes: never null, aligned, and not overlapping with what it
-//! may write, which is all that it asks for; so safe code may call it. The two functions
-//! that take bytes take a pointer and a length, and have a function here that keeps the
-//! two together.
+//! may write, which is all that it asks for; so safe code may call it. The functions that
+//! take bytes take a pointer and a length; each has a function here that keeps the two
+//! together.
 
 use crate::plant::Record;
 use crate::tables::{Asm1, Digester};
@@ -20,6 +20,24 @@ unsafe extern "C" {
     ) -> usize;
     /// Writes the held line; `held` below calls it.
     fn jilghvani_held(record: &Record, buf: *mut u8, buf_len: usize) -> usize;
+    /// Writes the line of a receive; `write_receive` below calls it.
+    fn jilghvani_write_receive(v: &Asm1, preview: u64, buf: *mut u8, buf_len: usize) -> usize;
+    /// Writes the line of a feed; `write_feed` below calls it.
+    fn jilghvani_write_feed(k: u64, preview: u64, buf: *mut u8, buf_len: usize) -> usize;
+    /// Writes the line of a settle; `write_settle` below calls it.
+    fn jilghvani_write_settle(
+        gas: u64,
+        d: &Digester,
+        preview: u64,
+        buf: *mut u8,
+        buf_len: usize,
+    ) -> usize;
+    /// Writes the line of a return; `write_return` below calls it.
+    fn jilghvani_write_return(k: u64, preview: u64, buf: *mut u8, buf_len: usize) -> usize;
+    /// Writes the line of a release; `write_release` below calls it.
+    fn jilghvani_write_release(k: u64, preview: u64, buf: *mut u8, buf_len: usize) -> usize;
+    /// Writes the line of a recycle; `write_recycle` below calls it.
+    fn jilghvani_write_recycle(k: u64, preview: u64, buf: *mut u8, buf_len: usize) -> usize;
     /// The same as `numbers::fresh`.
     pub safe fn jilghvani_fresh(record: &mut Record);
     /// The same as `numbers::receive`.
@@ -57,4 +75,40 @@ pub fn line(record: &mut Record, line: &[u8], buffer: &mut [u8]) -> usize {
 pub fn held(record: &Record, buffer: &mut [u8]) -> usize {
     // The pointer goes with its own length.
     unsafe { jilghvani_held(record, buffer.as_mut_ptr(), buffer.len()) }
+}
+
+/// Writes the line of a receive, or of its preview; gives the count of bytes written.
+pub fn write_receive(v: &Asm1, preview: u64, buffer: &mut [u8]) -> usize {
+    // The pointer goes with its own length.
+    unsafe { jilghvani_write_receive(v, preview, buffer.as_mut_ptr(), buffer.len()) }
+}
+
+/// Writes the line of a feed, or of its preview; gives the count of bytes written.
+pub fn write_feed(k: u64, preview: u64, buffer: &mut [u8]) -> usize {
+    // The pointer goes with its own length.
+    unsafe { jilghvani_write_feed(k, preview, buffer.as_mut_ptr(), buffer.len()) }
+}
+
+/// Writes the line of a settle, or of its preview; gives the count of bytes written.
+pub fn write_settle(gas: u64, d: &Digester, preview: u64, buffer: &mut [u8]) -> usize {
+    // The pointer goes with its own length.
+    unsafe { jilghvani_write_settle(gas, d, preview, buffer.as_mut_ptr(), buffer.len()) }
+}
+
+/// Writes the line of a return, or of its preview; gives the count of bytes written.
+pub fn write_return(k: u64, preview: u64, buffer: &mut [u8]) -> usize {
+    // The pointer goes with its own length.
+    unsafe { jilghvani_write_return(k, preview, buffer.as_mut_ptr(), buffer.len()) }
+}
+
+/// Writes the line of a release, or of its preview; gives the count of bytes written.
+pub fn write_release(k: u64, preview: u64, buffer: &mut [u8]) -> usize {
+    // The pointer goes with its own length.
+    unsafe { jilghvani_write_release(k, preview, buffer.as_mut_ptr(), buffer.len()) }
+}
+
+/// Writes the line of a recycle, or of its preview; gives the count of bytes written.
+pub fn write_recycle(k: u64, preview: u64, buffer: &mut [u8]) -> usize {
+    // The pointer goes with its own length.
+    unsafe { jilghvani_write_recycle(k, preview, buffer.as_mut_ptr(), buffer.len()) }
 }

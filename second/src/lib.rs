@@ -1,6 +1,7 @@
 //! A second implementation of the ASM1 and ADM1 link, written from document 01, from
-//! requests E1 (recycle), E2 (fields in column order) and E3 (previews) of document 02 and,
-//! for what they have no line for (conversions by themselves, `close`, `gap`), from a
+//! requests E1 (recycle), E2 (fields in column order), E3 (previews) and E5 (a writer for
+//! call lines) of document 02 and, for what they have no line for (conversions by
+//! themselves, `close`, `gap`, the number that asks for a preview to be written), from a
 //! description in words; never from the code of the verified link.
 //!
 //! The link:
@@ -10,13 +11,14 @@
 //! - `closing`: what closes in the place of a solver's proposal, and how far off one is;
 //! - `numbers`: every call by numbers, as a host in C makes it;
 //! - `lines`: a line read as a call or its preview, an answer written into a lent buffer;
+//! - `writing`: a call or its preview written as its line into a lent buffer;
 //! - `session`: input cut into lines and answered in fixed memory.
 //!
 //! For the tools in `src/bin` and for the tests:
 //! - `random`: the generator of their numbers;
 //! - `balances`: the four balances over a list, from its calls and answers;
 //! - `trials`: records, calls, lines, vectors and proposals to try, fair, damaged and out of
-//!   order, and previews;
+//!   order, previews, and calls to be written;
 //! - `outside`: trials of the program's input, output and arguments;
 //! - `host`: the functions of the C library, with the feature `library` alone.
 
@@ -33,3 +35,4 @@ pub mod random;
 pub mod session;
 pub mod tables;
 pub mod trials;
+pub mod writing;

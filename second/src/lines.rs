@@ -111,19 +111,19 @@ fn leading_number(bytes: &[u8]) -> Option<(u64, &[u8])> {
 }
 
 /// Writes bytes one after another into a lent buffer and leaves those behind as they are.
-struct Writer<'b> {
+pub(crate) struct Writer<'b> {
     buffer: &'b mut [u8],
     filled: usize,
 }
 
 impl<'b> Writer<'b> {
     /// Starts at the buffer's first byte.
-    fn new(buffer: &'b mut [u8]) -> Writer<'b> {
+    pub(crate) fn new(buffer: &'b mut [u8]) -> Writer<'b> {
         Writer { buffer, filled: 0 }
     }
 
     /// Writes these bytes.
-    fn text(&mut self, bytes: &[u8]) {
+    pub(crate) fn text(&mut self, bytes: &[u8]) {
         let end = self.filled + bytes.len();
         self.buffer[self.filled..end].copy_from_slice(bytes);
         self.filled = end;
@@ -149,13 +149,13 @@ impl<'b> Writer<'b> {
     }
 
     /// Writes a label and then a number.
-    fn labelled(&mut self, label: &[u8], number: u64) {
+    pub(crate) fn labelled(&mut self, label: &[u8], number: u64) {
         self.text(label);
         self.number(number);
     }
 
     /// Hands back the filled part of the buffer.
-    fn filled(self) -> &'b [u8] {
+    pub(crate) fn filled(self) -> &'b [u8] {
         &self.buffer[..self.filled]
     }
 }

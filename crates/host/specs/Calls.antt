@@ -2,6 +2,7 @@
 --
 --   LineCalled           the call on a line: the columns behind it, the answer's bytes and the whole buffer
 --   HeldCalled           the held line: its bytes and the whole buffer
+--   Composed             a call as a line: its bytes and the whole buffer
 --   Called               a call of the record by numbers: the columns behind it and the refusal's number
 --   CalledOut            the same, with what the call tells or hands out
 --   fourOf, strippedOf   what a feed tells, and a return
@@ -10,26 +11,26 @@
 --   CloseCalled, GapCalled           a proposal closed, and how far off it is
 --
 -- cs and es are the columns before and behind the call, d and e the buffer before and behind it, ts what is told, r is the result.
-use mathlib.Core.List.{List, [], _∷_}
+use mathlib.Core.Bool.{not}
+use mathlib.Core.List.{List, [], _∷_, _++_}
 use mathlib.Core.Path.{_≡_}
 use Prim.Native.Nat.{ℕ}
-use lib.ListN.{length}
+use lib.Dec.{eqb}
+use lib.ListN.{length, drop}
 use Rattle.vectors.specs.declared.figures.Figures.{Figures}
 use Rattle.interface.specs.declared.feed.Fed.{Fed}
-use Rattle.interface.specs.declared.returning.Returned.{Returned}
 use Rattle.interface.specs.Whole.{asmToAdm, admToAsm}
 use Rattle.plant.specs.Answer.{told}
-use Rattle.plant.specs.declared.answer.Answer.{Answer}
 use Rattle.plant.specs.declared.answer.Outcome.{Outcome}
 use Rattle.plant.specs.declared.answer.Request.{Request}
 use Rattle.plant.specs.declared.holding.HeldTotals.{HeldTotals}
 use Rattle.plant.specs.Calls.{step}
 use Rattle.plant.specs.Held.{heldOf}
-use Rattle.closing.specs.declared.Closed.{Closed}
 use Rattle.closing.specs.declared.Gaps.{Gaps}
 use Rattle.closing.specs.Closing.{closeOf, gapOf}
 use Rattle.writing.specs.Buffer.{Answered}
 use Rattle.writing.specs.Answer.{heldText, fitting}
+use Rattle.composing.specs.Written.{writtenText}
 use Rattle.lines.specs.Asking.{lineOutcome, lineText}
 use Rattle.host.specs.Record.{plantAt, columnsAt}
 
@@ -41,6 +42,11 @@ pub record LineCalled (f : Figures) (cs s d : List ℕ) (r : ℕ) (es e : List �
 
 pub record HeldCalled (f : Figures) (cs d : List ℕ) (r : ℕ) (e : List ℕ) : Type 0 where
   pub text : Answered d (fitting (length d) (heldText (heldOf f (plantAt cs)))) r e
+
+-- the line of the request q, or of its preview where n is not 0
+pub record Composed (q : Request) (n : ℕ) (d : List ℕ) (r : ℕ) (e : List ℕ) : Type 0 where
+  pub count : r ≡ length (writtenText (length d) (not (eqb n 0)) q)
+  pub buffer : e ≡ writtenText (length d) (not (eqb n 0)) q ++ drop (length (writtenText (length d) (not (eqb n 0)) q)) d
 
 -- ---- the record's calls by numbers: q is the request
 

@@ -2,16 +2,24 @@
 // declares them for C. Nothing is kept between calls.
 //
 //   text         the call on a line, and the held line
+//   composed     calls by numbers as lines
 //   numbers      the record's calls by numbers, and what is in the tanks
 //   conversions  the two conversions of a vector by itself
 //   proposals    a proposal for settle: what closes it, and how far off it is
 //   record       52 columns and the plant record that they stand for
+mod composed;
 mod conversions;
 mod numbers;
 mod proposals;
 mod record;
 mod text;
 
+pub use composed::jilghvani_write_feed;
+pub use composed::jilghvani_write_receive;
+pub use composed::jilghvani_write_recycle;
+pub use composed::jilghvani_write_release;
+pub use composed::jilghvani_write_return;
+pub use composed::jilghvani_write_settle;
 pub use conversions::jilghvani_adm_to_asm;
 pub use conversions::jilghvani_asm_to_adm;
 pub use numbers::jilghvani_feed;

@@ -2,6 +2,7 @@
 --
 --   readField     inside a bracket: a name, a space, a number
 --   anyFields     none or more fields, each behind a space, each column at most once
+--   fromFields    a number of each of them
 --   inOrder       their columns rise: document 02, E2
 --   readFields    fields in that order
 --   fieldFrom     a field where its column is n or behind it
@@ -91,11 +92,15 @@ anyFields names s = readPieces names (noFields true) (pieces closing s)
 
 -- ---- the order of the fields: document 02, E2
 
--- the columns that pieces name, one by one; what stands behind the last bracket names none
-unfoldable pub named : List (List ℕ) → List (List ℕ) → List ℕ
-named names [] = []
-named names (p ∷ []) = []
-named names (p ∷ (q ∷ ps)) = columnIn (readPiece names p) ∷ named names (q ∷ ps)
+-- a number of each field that stands in pieces, one by one; what stands behind the last bracket is no field
+unfoldable pub fromFields : (Field → ℕ) → List (List ℕ) → List (List ℕ) → List ℕ
+fromFields of names [] = []
+fromFields of names (p ∷ []) = []
+fromFields of names (p ∷ (q ∷ ps)) = of (readPiece names p) ∷ fromFields of names (q ∷ ps)
+
+-- the columns that they name
+abbrev pub named : List (List ℕ) → List (List ℕ) → List ℕ
+named names ps = fromFields columnIn names ps
 
 -- each is n or above, and above the one before it
 unfoldable pub rises : ℕ → List ℕ → Bool

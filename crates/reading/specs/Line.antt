@@ -10,8 +10,9 @@
 --   previewText         (preview FORM), with any bytes for FORM
 --   PreviewFormLaw      it is read as the preview of what those bytes are read as, so that a preview inside a preview is no form.
 --                       proofs/Laws/Line.antt proves it: preview-form-law
+--   passes              a line's fields, where it has any, pass a test
 --   anyLine             a line whose fields stand in any order
---   ordered             a line's fields, where it has any, are in order
+--   ordered             they are in order
 --   OrderLaw            the lines of readLine are those of anyLine that are ordered, and read as there.
 --                       proofs/Laws/Line.antt proves it: order-law
 use mathlib.Core.Bool.{Bool, true, false, cond, _&&_}
@@ -80,23 +81,32 @@ previewText u = bracketed (ascii "preview " ++ u)
 abbrev pub PreviewFormLaw : Type 0
 PreviewFormLaw = (u : List ℕ) → length (previewText u) ≤ 1024 → readLine (previewText u) ≡ previewLine (readLine u)
 
+-- ---- a test of a line's fields
+
+-- of names and of the bytes of fields
+abbrev pub FieldsTest : Type 0
+FieldsTest = List (List ℕ) → List ℕ → Bool
+
+-- the fields inside a call's bracket t pass, where its word w has fields
+unfoldable pub formPasses : FieldsTest → List ℕ → List ℕ → Bool
+formPasses test w t =
+    cond (sameBytes w (ascii "receive")) (test (namesOf Sludge) (drop (length w) t))
+    (cond (sameBytes w (ascii "settle")) (test (namesOf Digester) (settlePart (behind space t))) true)
+
+abbrev pub callPasses : FieldsTest → List ℕ → Bool
+callPasses test s = formPasses test (upTo space (inner s)) (inner s)
+
+-- of a preview those of the call inside
+abbrev pub passes : FieldsTest → List ℕ → Bool
+passes test s = cond (isPreview s) (callPasses test (formIn s)) (callPasses test s)
+
 -- ---- what the order took away: document 02, E2
 
 abbrev pub anyLine : List ℕ → Line
 anyLine s = lineBy anyFields s
 
--- the fields inside a call's bracket t are in order, where its word w has fields
-unfoldable pub formOrdered : List ℕ → List ℕ → Bool
-formOrdered w t =
-    cond (sameBytes w (ascii "receive")) (inOrder (namesOf Sludge) (drop (length w) t))
-    (cond (sameBytes w (ascii "settle")) (inOrder (namesOf Digester) (settlePart (behind space t))) true)
-
-abbrev pub callOrdered : List ℕ → Bool
-callOrdered s = formOrdered (upTo space (inner s)) (inner s)
-
--- of a preview those of the call inside
 abbrev pub ordered : List ℕ → Bool
-ordered s = cond (isPreview s) (callOrdered (formIn s)) (callOrdered s)
+ordered s = passes inOrder s
 
 -- a line in order is read as where the order is free, and any other is no form
 abbrev pub OrderLaw : Type 0

@@ -54,7 +54,7 @@ fn lines_of_reject(buf: &mut [u8]) {
 
 // The answer to a line on a fresh record.
 fn line(buf: &mut [u8], s: &[u8]) {
-    fill(buf);
+    test_show::fill(buf);
     let p = plant::fresh();
     let a = lines::answer_line(p, s, buf);
     let o = a.outcome;
@@ -65,7 +65,7 @@ fn line(buf: &mut [u8], s: &[u8]) {
 
 // The held line of a record with ss in its reject tank.
 fn held(buf: &mut [u8], ss: u64) {
-    fill(buf);
+    test_show::fill(buf);
     let p = plant_with(ss);
     let h = lines::held_line(p, buf);
     test_show::number(b"refusal ", h.refusal);
@@ -74,7 +74,7 @@ fn held(buf: &mut [u8], ss: u64) {
 
 // The longest answer that there is: a release with twenty digits in each column.
 fn longest(buf: &mut [u8]) {
-    fill(buf);
+    test_show::fill(buf);
     let v = [18446744073709551615u64; 13];
     let k = writing::write_answer(buf, Answer::Released, v);
     test_show::text(b"longest");
@@ -109,13 +109,13 @@ fn fed() -> Answer {
 // The part that the answer writer itself hands back, and a look behind it afterwards: no contract speaks of the bytes there. Under 512
 // bytes the part is empty, and the look goes over the whole buffer.
 fn handed_back(buf: &mut [u8], a: Answer, v: [u64; 13]) {
-    fill(buf);
+    test_show::fill(buf);
     let part = writing::filled_answer(buf, a, v);
     test_show::text(b"handed back [");
     test_show::text(part);
     let k = part.len();
     test_show::text(b"]");
-    tell_behind(buf, k);
+    test_show::behind(buf, k);
 }
 
 // A record with ss in its reject tank.
@@ -132,32 +132,6 @@ fn plant_with(ss: u64) -> Plant {
     }
 }
 
-// The pattern: a byte that goes by its place and is never zero.
-fn mark(i: usize) -> u8 {
-    (i % 251 + 1) as u8
-}
-
-// Writes the pattern.
-fn fill(buf: &mut [u8]) {
-    let mut i = 0;
-    while i < buf.len() {
-        buf[i] = mark(i);
-        i += 1;
-    }
-}
-
-// Whether the bytes from a place on have the pattern still.
-fn kept(buf: &[u8], from: usize) -> bool {
-    let mut i = from;
-    while i < buf.len() {
-        if buf[i] != mark(i) {
-            return false;
-        }
-        i += 1;
-    }
-    true
-}
-
 // The buffer's length, the part that an answer of n bytes fills, and what is behind it.
 fn tell(buf: &[u8], n: usize) {
     test_show::number(b" in ", buf.len() as u64);
@@ -166,14 +140,5 @@ fn tell(buf: &[u8], n: usize) {
     test_show::text(b" [");
     test_show::text(p);
     test_show::text(b"]");
-    tell_behind(buf, n);
-}
-
-// Whether the bytes from a place on have the pattern still.
-fn tell_behind(buf: &[u8], n: usize) {
-    if kept(buf, n) {
-        test_show::text(b" kept\n");
-    } else {
-        test_show::text(b" CHANGED\n");
-    }
+    test_show::behind(buf, n);
 }

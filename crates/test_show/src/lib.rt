@@ -1,7 +1,14 @@
 // Writes text, numbers and columns to standard output, for the test programs.
+//
+//   pattern   a pattern in a lent buffer, and whether it is there still
 ghost use mathlib.Core.Path.{_≡_};
 ghost use Prim.Native.Nat.{_*_};
 ghost use lib.ListN.{length};
+
+mod pattern;
+
+pub use pattern::behind;
+pub use pattern::fill;
 
 pub fn text(s: &[u8]) {
     io::write_all(1, s);

@@ -9,4 +9,7 @@ pub use answer::filled_answer;
 pub use answer::write_answer;
 pub use answer::write_held;
 pub use put::filled_part;
+pub use put::put_bytes;
+pub use put::put_column;
 pub use put::put_fitting;
+pub use put::put_labelled;

@@ -72,7 +72,7 @@ fn extreme(random: &mut Random, ceiling: u64) -> u64 {
 }
 
 /// An amount above its ceiling.
-fn above(random: &mut Random, ceiling: u64) -> u64 {
+pub fn above(random: &mut Random, ceiling: u64) -> u64 {
     match random.below(6) {
         0..=2 => ceiling + 1,
         3 => ceiling + 1 + random.sized(ceiling),

@@ -6,6 +6,7 @@
 //! - `damage`: lines that are no forms any more, or nearly not;
 //! - `order`: lines whose fields stand in another order than their columns;
 //! - `previews`: lines as previews, or nearly so;
+//! - `writing`: calls to be written as lines, and the buffers lent for them;
 //! - here: a call written as a line, and the choice of the next record, line, call and
 //!   vector.
 
@@ -15,6 +16,7 @@ pub mod edges;
 pub mod order;
 pub mod previews;
 pub mod proposals;
+pub mod writing;
 
 use crate::plant::{Call, Plant};
 use crate::random::Random;

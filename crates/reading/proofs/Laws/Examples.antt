@@ -3,7 +3,7 @@ use mathlib.Core.Path.{refl}
 use Rattle.reading.specs.Text.{sameBytes, lookUp, upTo, behind, onFirst, pieces}
 use Rattle.reading.specs.Number.{allDigits, valueAfter, leads, readAfter, readNumber}
 use Rattle.reading.specs.Names.{columnFrom}
-use Rattle.reading.specs.Form.{readField, readPiece, addField, readPieces, named, rises}
+use Rattle.reading.specs.Form.{readField, readPiece, addField, readPieces, fromFields, rises}
 use Rattle.reading.specs.Form.{settleBy, formOf}
 use Rattle.reading.specs.Line.{inBrackets, callBy, isPreview, readLine}
 use Rattle.reading.specs.Examples.{ExamplesHold}
@@ -14,7 +14,7 @@ a also b = (a, b)
 
 pub examples-hold : ExamplesHold
 unfolding sameBytes lookUp upTo behind onFirst pieces allDigits valueAfter leads readAfter readNumber columnFrom
-    readField readPiece addField readPieces named rises settleBy formOf inBrackets callBy isPreview readLine
+    readField readPiece addField readPieces fromFields rises settleBy formOf inBrackets callBy isPreview readLine
 examples-hold =
     refl also refl also refl also refl also refl also refl also refl also refl also refl also refl also refl also refl also refl
     also

@@ -4,6 +4,7 @@
 --   piece-..                                    a field behind a space and a bracket
 --   add-none, add-again, add-first, add-marked  a further field: none, one whose column was named, one that is the first
 --   left                                        what is left to read in a loop over fields
+--   left-step                                   one piece of it
 --   left-unclosed, left-go, left-stop, left-end one turn of that loop
 --   form-receive, form-settle, form-number, ..  a form, by the place of its first space
 use mathlib.Core.Bool.{Bool, true, false, cond, _&&_, and-false}
@@ -29,7 +30,7 @@ use Rattle.reading.specs.Text.{ascii, sameBytes, upTo, behind, pieces}
 use Rattle.reading.specs.Number.{readNumber}
 use Rattle.reading.specs.Names.{namesOf, columnOf, fromColumn}
 use Rattle.reading.specs.Form.{fieldOf, readField, readPiece, noFields, addField, columnIn, numberIn, atEnd, whenOk}
-use Rattle.reading.specs.Form.{readPieces, named, rises, readFields, fieldFrom}
+use Rattle.reading.specs.Form.{readPieces, fromFields, named, rises, readFields, fieldFrom}
 use Rattle.reading.specs.Form.{noForm, receiveLine, settleLine, numberLine}
 use Rattle.reading.specs.Form.{settleBy, formOf, formBy}
 use Rattle.reading.proofs.Laws.Text.{rest-of, upTo-place, behind-drop, behind-next, pieces-cut, pieces-last, pieces-some}
@@ -99,7 +100,7 @@ module _ (names : List (List ℕ)) where
 -- ---- a further field, by its column
 
 -- f with the number n in column c, which was not named before
-abbrev put : Fields → ℕ → ℕ → Fields
+abbrev pub put : Fields → ℕ → ℕ → Fields
 put f c n = record { ok = true; columns = set (f .columns) c n; seen = set (f .seen) c true }
 
 pub add-none : (f : Fields) (x : Field) → 26 ≤ columnIn x → addField f x ≡ noFields false
@@ -157,10 +158,11 @@ left-case n (Of c k) r f g = go (leb n c)
     go true = cond-swap (r (c + 1)) (addField f (Of c k) .ok) (g (addField f (Of c k))) (noFields false)
     go false = refl
 
-left-step : (names : List (List ℕ)) (n : ℕ) (f : Fields) (p : List ℕ) (ps : List (List ℕ)) → 0 < length ps
+-- one piece more
+pub left-step : (names : List (List ℕ)) (n : ℕ) (f : Fields) (p : List ℕ) (ps : List (List ℕ)) → 0 < length ps
     → left names n f (p ∷ ps)
     ≡ (let x = fieldFrom n (readPiece names p) in whenOk (addField f x .ok) (left names (columnIn x + 1) (addField f x) ps))
-unfolding readPieces named rises
+unfolding readPieces fromFields rises
 left-step names n f p [] h = absurd (omega arith)
 left-step names n f p (q ∷ ps) h =
     left-case n (readPiece names p) (λ (m : ℕ). rises m (named names (q ∷ ps))) f (λ (g : Fields). readPieces names g (q ∷ ps))
@@ -172,13 +174,13 @@ module _ (names : List (List ℕ)) (n : ℕ) (f : Fields) (s : List ℕ) (i : �
 
   -- a last piece is not followed by another
   pub left-unclosed : i < length s → length s ≤ i + length (upTo 41 (drop i s)) → left names n f (pieces 41 (drop i s)) ≡ noFields false
-  unfolding readPieces named rises
+  unfolding readPieces fromFields rises
   left-unclosed h k =
       ap (left names n f) (pieces-last 41 (drop i s) (omega (arith, length-drop i s)))
       ∙ not-empty (drop i s) (omega (arith, length-drop i s))
 
   pub left-end : length s ≤ i → left names n f (pieces 41 (drop i s)) ≡ f
-  unfolding readPieces pieces named rises
+  unfolding readPieces pieces fromFields rises
   left-end h = simp (drop-of-length-le s h)
 
   -- where e is the place of the next closing bracket, x the field before it, and g is f with it

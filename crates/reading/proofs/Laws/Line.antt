@@ -32,7 +32,7 @@ use Rattle.reading.specs.Names.{namesOf}
 use Rattle.reading.specs.Form.{whenOk, anyFields, inOrder, readFields, lineOf, noForm, receiveLine, settleLine, numberLine}
 use Rattle.reading.specs.Form.{settlePart, settleBy, formOf, formBy}
 use Rattle.reading.specs.Line.{inBrackets, inner, callBy, previewBy, previewLine, isPreview, formIn, readLine}
-use Rattle.reading.specs.Line.{bracketed, previewText, PreviewFormLaw, formOrdered, callOrdered, OrderLaw}
+use Rattle.reading.specs.Line.{bracketed, previewText, PreviewFormLaw, formPasses, callPasses, OrderLaw}
 use Rattle.reading.proofs.Laws.Text.{same-lengths, same-equal}
 use Rattle.reading.proofs.Laws.Form.{cond-swap}
 
@@ -89,7 +89,7 @@ module _ (s : List ℕ) where
       go true = sym e
       go false = refl
 
-  preview-split : isPreview s ≡ true → s ≡ ascii "(preview " ++ drop 9 s
+  pub preview-split : isPreview s ≡ true → s ≡ ascii "(preview " ++ drop 9 s
   unfolding isPreview
   preview-split e =
       sym (take-append-drop 9 s)
@@ -128,7 +128,7 @@ module _ (s : List ℕ) where
 
 -- ---- a preview in the place of a line
 
-brackets-around : (t : List ℕ) → length (bracketed t) ≤ 1024 → inBrackets (bracketed t) ≡ true
+pub brackets-around : (t : List ℕ) → length (bracketed t) ≤ 1024 → inBrackets (bracketed t) ≡ true
 unfolding inBrackets
 brackets-around t h =
     let n = length-append t (41 ∷ []) in
@@ -139,11 +139,11 @@ brackets-around t h =
           (getD-at (40 ∷ t) 41 [] 0 (length (bracketed t) - 1) (omega (arith, n))),
     )
 
-preview-around : (u : List ℕ) → length (previewText u) ≤ 1024 → isPreview (previewText u) ≡ true
+pub preview-around : (u : List ℕ) → length (previewText u) ≤ 1024 → isPreview (previewText u) ≡ true
 unfolding isPreview sameBytes
 preview-around u h = ap (λ (b : Bool). b && true) (brackets-around (ascii "preview " ++ u) h)
 
-form-around : (u : List ℕ) → formIn (previewText u) ≡ u
+pub form-around : (u : List ℕ) → formIn (previewText u) ≡ u
 form-around u = take-at u (41 ∷ []) (length (previewText u) - 1 - 9) (omega (arith, length-append u (41 ∷ [])))
 
 -- the word preview is no call's
@@ -211,8 +211,8 @@ settle-when false (Value g) f = refl
 settle-when false NotANumber f = refl
 
 -- the three kinds of form: with the tests of their words as they are
-form-ordered : (w t : List ℕ) → formOf readFields w t ≡ cond (formOrdered w t) (formOf anyFields w t) noForm
-unfolding formOf formOrdered settleBy
+form-ordered : (w t : List ℕ) → formOf readFields w t ≡ cond (formPasses inOrder w t) (formOf anyFields w t) noForm
+unfolding formOf formPasses settleBy
 form-ordered w t = go (sameBytes w (ascii "receive")) (sameBytes w (ascii "settle"))
   where
     go : (a b : Bool)
@@ -229,11 +229,11 @@ form-ordered w t = go (sameBytes w (ascii "receive")) (sameBytes w (ascii "settl
         (anyFields (namesOf Digester) (settlePart (behind 32 t)))
     go false false = refl
 
-call-ordered : (u : List ℕ) → callBy readFields u ≡ cond (callOrdered u) (callBy anyFields u) noForm
+call-ordered : (u : List ℕ) → callBy readFields u ≡ cond (callPasses inOrder u) (callBy anyFields u) noForm
 unfolding callBy
 call-ordered u =
     ap (λ (l : Line). cond (inBrackets u) l noForm) (form-ordered (upTo 32 (inner u)) (inner u))
-    ∙ cond-swap (inBrackets u) (callOrdered u) (formBy anyFields (inner u)) noForm
+    ∙ cond-swap (inBrackets u) (callPasses inOrder u) (formBy anyFields (inner u)) noForm
 
 preview-when : (b : Bool) (l : Line) → previewLine (cond b l noForm) ≡ cond b (previewLine l) noForm
 preview-when true l = refl
@@ -245,9 +245,9 @@ order-law s = go (isPreview s)
   where
     go : (b : Bool)
         → cond b (previewLine (callBy readFields (formIn s))) (callBy readFields s)
-        ≡ cond (cond b (callOrdered (formIn s)) (callOrdered s))
+        ≡ cond (cond b (callPasses inOrder (formIn s)) (callPasses inOrder s))
         (cond b (previewLine (callBy anyFields (formIn s))) (callBy anyFields s))
         noForm
     go true =
-        ap previewLine (call-ordered (formIn s)) ∙ preview-when (callOrdered (formIn s)) (callBy anyFields (formIn s))
+        ap previewLine (call-ordered (formIn s)) ∙ preview-when (callPasses inOrder (formIn s)) (callBy anyFields (formIn s))
     go false = call-ordered s

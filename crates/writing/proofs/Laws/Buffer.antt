@@ -1,6 +1,7 @@
 -- Laws of writing into a buffer. Assumes nothing.
 --
 --   put-byte, put-none, put-more, put-all   one byte, and a loop that copies
+--   put-first                               bytes at the start
 --   put-then                                two writers, one behind the other, are one
 --   put-same                                the bytes under another name
 --   put-left, put-fits, put-room            bytes that do not fit, and bytes that do
@@ -20,7 +21,8 @@ use borrow.Author.Tests.{le-leb, lt-leb}
 use Rattle.writing.specs.Buffer.{putAt, Put, fitted, Answered}
 use Rattle.writing.specs.Answer.{columnText, columnsText}
 
-put-first : (d s : List ℕ) → putAt d 0 s ≡ s ++ drop (length s) d
+-- at the start of the buffer
+pub put-first : (d s : List ℕ) → putAt d 0 s ≡ s ++ drop (length s) d
 unfolding putAt
 put-first d s = rw zero-add
 

@@ -3,6 +3,7 @@
 --   decimal-is       the kit's digits, as few as there can be, are a number's digits
 --   fewest-le        there are at most twenty of them
 --   decimal-length   there are at most twenty
+--   glyph-is         the byte of a digit
 --   decimal-digits   they are digits, and there is one
 --   decimal-value    they stand for the number
 use mathlib.Core.Bool.{Bool, true, false, cond}
@@ -62,7 +63,7 @@ decimal-is n k h f = ap (λ (j : ℕ). digits 10 j n) (sym (places-is 19 n k (f 
 
 -- ---- lengths
 
-digits-length : (k n : ℕ) → length (digits 10 k n) ≡ k
+pub digits-length : (k n : ℕ) → length (digits 10 k n) ≡ k
 digits-length zero n = refl
 digits-length (suc k) n = omega (arith, length-append (digits 10 k (n / 10)) (glyph (n % 10) ∷ []), digits-length k (n / 10))
 
@@ -91,7 +92,7 @@ unfolding valueAfter
 value-append n [] t = refl
 value-append n (b ∷ s) t = value-append (n * 10 + (b - 48)) s t
 
-glyph-is : (d : ℕ) → d < 10 → glyph d ≡ 48 + d
+pub glyph-is : (d : ℕ) → d < 10 → glyph d ≡ 48 + d
 glyph-is d h = ap (λ t. cond t (48 + d) (87 + d)) (lt-ltb d 10 h)
 
 last-digit : (n : ℕ) → glyph (n % 10) ≡ 48 + n % 10

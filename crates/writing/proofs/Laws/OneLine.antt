@@ -2,6 +2,9 @@
 --
 --   one-append    parts without a newline, one behind the other
 --   one-decimal   a number's digits
+--   one-labelled  a label and a number
+--   one-name      the names of columns
+--   one-column    a column
 --   one-columns   the columns of a release
 --   one-answer    every answer
 --   one-held      every held line
@@ -24,12 +27,12 @@ use Rattle.reading.specs.Names.{namesOf}
 use Rattle.writing.specs.Answer.{labelled, columnText, columnsText, fourText, returnedText, releasedText, refusedText}
 use Rattle.writing.specs.Answer.{totalsText, AnswerLineLaw, HeldLineLaw}
 
-abbrev One : List ℕ → Type 0
+abbrev pub One : List ℕ → Type 0
 One s = oneLine s ≡ true
 
 -- ---- parts
 
-one-append : (s t : List ℕ) → One s → One t → One (s ++ t)
+pub one-append : (s t : List ℕ) → One s → One t → One (s ++ t)
 unfolding oneLine
 one-append [] t p q = q
 one-append (b ∷ s) t p q =
@@ -58,7 +61,7 @@ pub one-decimal : (n : ℕ) → One (decimal n)
 unfolding decimal
 one-decimal n = one-digits (placesFrom 19 n) n
 
-one-labelled : (label : List ℕ) (n : ℕ) → One label → One (labelled label n)
+pub one-labelled : (label : List ℕ) (n : ℕ) → One label → One (labelled label n)
 one-labelled label n h = one-append label (decimal n) h (one-decimal n)
 
 -- ---- columns
@@ -67,13 +70,13 @@ unfoldable pub allOne : List (List ℕ) → Bool
 allOne [] = true
 allOne (s ∷ ss) = oneLine s && allOne ss
 
-one-name : (names : List (List ℕ)) (k : ℕ) → allOne names ≡ true → One (getD names k [])
+pub one-name : (names : List (List ℕ)) (k : ℕ) → allOne names ≡ true → One (getD names k [])
 unfolding allOne oneLine
 one-name [] k h = refl
 one-name (s ∷ ss) zero h = both-true (oneLine s) (allOne ss) h .0
 one-name (s ∷ ss) (suc k) h = one-name ss k (both-true (oneLine s) (allOne ss) h .1)
 
-one-column : (name : List ℕ) (n : ℕ) → One name → One (columnText name n)
+pub one-column : (name : List ℕ) (n : ℕ) → One name → One (columnText name n)
 unfolding columnText oneLine
 one-column name n h =
     one-append (ascii " (") (name ++ (labelled (ascii " ") n ++ ascii ")")) refl

@@ -1,9 +1,10 @@
 //! Lists of calls through the C library: lines and held lines here, with everything
-//! around record, line and buffer guarded; calls by numbers in `numbers`.
+//! around record, line and buffer guarded; calls by numbers in `numbers`, and calls
+//! written as lines in `writing`.
 
 use crate::guarded::{byte_pattern, number_pattern, Guarded};
 use crate::tally::{kind_of, refusal_of, Tally};
-use crate::{numbers, shown, Difference, Options};
+use crate::{numbers, shown, writing, Difference, Options};
 use second::balances::Balances;
 use second::plant::Plant;
 use second::random::Random;
@@ -118,6 +119,14 @@ fn held(random: &mut Random, plant: &Plant, tally: &mut Tally) -> Result<(), Dif
     compared.map_err(|difference| setting.explain("held", difference))
 }
 
+/// Has a call written by both; its line is then answered by both, on a copy of the record.
+fn written(random: &mut Random, plant: &Plant, tally: &mut Tally) -> Result<(), Difference> {
+    match writing::one_call(random, tally)? {
+        Some(next) => line(random, &mut List::on(*plant), &next, tally),
+        None => Ok(()),
+    }
+}
+
 /// Runs one list of calls through the library, on records that are now and then put anew, with
 /// the balances of the calls on each.
 fn one_list(random: Random, tally: &mut Tally) -> Result<(), Difference> {
@@ -128,9 +137,10 @@ fn one_list(random: Random, tally: &mut Tally) -> Result<(), Difference> {
             list.check()?;
             list = List::on(trial.record());
         }
-        match trial.random.below(20) {
+        match trial.random.below(22) {
             0 => held(&mut trial.random, &list.plant, tally)?,
             1..=11 => numbers::one_call(&mut trial, &mut list, tally)?,
+            12 | 13 => written(&mut trial.random, &list.plant, tally)?,
             _ => {
                 let next = trial.line(&list.plant);
                 line(&mut trial.random, &mut list, &next, tally)?;

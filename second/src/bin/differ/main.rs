@@ -6,6 +6,7 @@
 //! - `program`: sessions through the program;
 //! - `library`: lists of calls through the library, their lines and held lines;
 //! - `numbers`: the calls by numbers in these lists;
+//! - `writing`: the calls that are written as lines in them;
 //! - `guarded`: what is lent to the library, between guards;
 //! - `tally`: how many answers of each kind were compared;
 //! - here: the options and the report.
@@ -15,6 +16,7 @@ mod library;
 mod numbers;
 mod program;
 mod tally;
+mod writing;
 
 use std::path::PathBuf;
 use std::process::ExitCode;

@@ -8,8 +8,9 @@ use std::ops::RangeInclusive;
 
 /// The kinds of answers: lines by the call they ask or preview, or where they are no forms, apart
 /// those that are none for the order of their fields alone and previews inside previews; the held
-/// line; and the functions that are called by numbers; a gap that is told stands by where it is.
-const KINDS: [&str; 32] = [
+/// line; the functions that are called by numbers; a gap that is told stands by where it is; and
+/// the functions that write a call's line, below each the same for its preview.
+const KINDS: [&str; 44] = [
     "receive",
     "feed",
     "settle",
@@ -42,6 +43,18 @@ const KINDS: [&str; 32] = [
     "  gap in COD",
     "  gap in TKN",
     "  gap in sin",
+    "jilghvani_write_receive",
+    "  receive's preview",
+    "jilghvani_write_feed",
+    "  feed's preview",
+    "jilghvani_write_settle",
+    "  settle's preview",
+    "jilghvani_write_return",
+    "  return's preview",
+    "jilghvani_write_release",
+    "  release's preview",
+    "jilghvani_write_recycle",
+    "  recycle's preview",
 ];
 
 /// Which kind a line with this call is, and which one its preview.
@@ -67,6 +80,25 @@ pub fn kind_of(line: &[u8]) -> &'static str {
     }
 }
 
+/// Which kind a line that is written is.
+pub fn kind_of_written(asked: &Asked) -> &'static str {
+    use Call::*;
+    match asked {
+        Asked::Call(Receive(_)) => "jilghvani_write_receive",
+        Asked::Call(Feed(_)) => "jilghvani_write_feed",
+        Asked::Call(Settle(..)) => "jilghvani_write_settle",
+        Asked::Call(Return(_)) => "jilghvani_write_return",
+        Asked::Call(Release(_)) => "jilghvani_write_release",
+        Asked::Call(Recycle(_)) => "jilghvani_write_recycle",
+        Asked::Preview(Receive(_)) => "  receive's preview",
+        Asked::Preview(Feed(_)) => "  feed's preview",
+        Asked::Preview(Settle(..)) => "  settle's preview",
+        Asked::Preview(Return(_)) => "  return's preview",
+        Asked::Preview(Release(_)) => "  release's preview",
+        Asked::Preview(Recycle(_)) => "  recycle's preview",
+    }
+}
+
 /// The refusal that an answer's bytes give: 0 accepted, 12 where there are none.
 pub fn refusal_of(answer: &[u8]) -> usize {
     match answer.strip_prefix(b"(no ").and_then(|rest| rest.strip_suffix(b")")) {
@@ -78,8 +110,14 @@ pub fn refusal_of(answer: &[u8]) -> usize {
 }
 
 /// How many answers of each kind had each outcome; outcome 0 is accepted.
-#[derive(Default)]
 pub struct Tally([[u64; 13]; KINDS.len()]);
+
+impl Default for Tally {
+    /// Nothing counted.
+    fn default() -> Tally {
+        Tally([[0; 13]; KINDS.len()])
+    }
+}
 
 impl Tally {
     /// Counts one answer of this kind.

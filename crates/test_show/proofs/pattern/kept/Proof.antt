@@ -1,10 +1,10 @@
--- `test_buffers::kept` meets its contract. Assumes nothing.
+-- `test_show::pattern::kept` meets its contract. Assumes nothing.
 use Prim.Native.Nat.{_-_}
 use Prim.{Unit}
 use lib.ListN.{length}
 use borrow.Author.Needs.{needs}
-use Rattle.test_buffers.proofs.kept.Statement.{statement}
-use Rattle.test_buffers.proofs.kept.Tie as tie
+use Rattle.test_show.proofs.pattern.kept.Statement.{statement}
+use Rattle.test_show.proofs.pattern.kept.Tie as tie
 
 abbrev Inv-loop : tie.InvT-loop
 Inv-loop buf from i₀ i = Unit

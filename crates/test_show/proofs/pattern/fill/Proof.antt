@@ -1,10 +1,10 @@
--- `test_buffers::fill` meets its contract. Assumes nothing.
+-- `test_show::pattern::fill` meets its contract. Assumes nothing.
 use mathlib.Core.Path.{_≡_}
 use Prim.Native.Nat.{_-_}
 use lib.ListN.{length}
 use borrow.Author.Needs.{needs}
-use Rattle.test_buffers.proofs.fill.Statement.{statement}
-use Rattle.test_buffers.proofs.fill.Tie as tie
+use Rattle.test_show.proofs.pattern.fill.Statement.{statement}
+use Rattle.test_show.proofs.pattern.fill.Tie as tie
 
 abbrev Inv-loop : tie.InvT-loop
 Inv-loop buf₀ i₀ buf i = length buf ≡ length buf₀
