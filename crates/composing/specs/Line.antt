@@ -1,18 +1,18 @@
 -- A call as a line: document 02, E5.
 --
 --   fieldText, fieldsFrom, fieldsText   a column, left away where it is zero, and the columns of a vector in order
---   callText                            a call in its brackets, with the vector that it takes
+--   receiveText, settleText, callText   a call in its brackets, with the vector that it takes
 --   entryText                           the same, or a preview of it
 --   asked                               what a line with the call is read as: the vector that it does not take is zero
 --   Holds                               13 and 26 columns, and no number above 2^64 − 1, as the code has them
---   ReadLaw                             reading the text of a call yields the call. proofs/Laws/Line.antt proves it: entry-read
---   GivesLaw                            so the line gives what the call gives, on every record: entry-gives
+--   TextReadLaw                         reading the text of a call yields the call. proofs/Laws/Line.antt proves it: entry-read
+--   TextGivesLaw                        so the line gives what the call gives, on every record: entry-gives
 --   namesNoZero                         no column that a line names is given zero, as a test
---   OnlyLaw                             a line that is read as the call and names no zero column is its text.
+--   TextOnlyLaw                         a line that is read as the call and names no zero column is its text.
 --                                       proofs/Laws/Only.antt proves it: entry-only
---   NoZeroLaw                           the text of a call names none. proofs/Laws/Line.antt proves it: entry-no-zero
---   LengthLaw                           it has at most 1,024 bytes: entry-length
---   OneLineLaw                          no newline stands in it: entry-one
+--   TextNoZeroLaw                       the text of a call names none. proofs/Laws/Line.antt proves it: entry-no-zero
+--   TextLengthLaw                       it has at most 1,024 bytes: entry-length
+--   TextLineLaw                         no newline stands in it: entry-one
 use mathlib.Core.Bool.{Bool, true, cond, not, _&&_}
 use mathlib.Core.List.{List, [], _∷_, _++_}
 use mathlib.Core.Path.{_≡_}
@@ -99,12 +99,12 @@ pub record Holds (r : Request) : Type 0 where
   pub sludge : Columns 13 (r .sludge)
   pub digester : Columns 26 (r .digester)
 
-abbrev pub ReadLaw : Type 0
-ReadLaw = (b : Bool) (r : Request) → Holds r → readLine (entryText b r) ≡ asked b r
+abbrev pub TextReadLaw : Type 0
+TextReadLaw = (b : Bool) (r : Request) → Holds r → readLine (entryText b r) ≡ asked b r
 
 -- with any figures f, on any record p, in any buffer of m bytes that an answer fits in
-abbrev pub GivesLaw : Type 0
-GivesLaw =
+abbrev pub TextGivesLaw : Type 0
+TextGivesLaw =
     (f : Figures) (m : ℕ) (p : Plant) (b : Bool) (r : Request) → Holds r → 512 ≤ m
     → lineOutcome f m p (entryText b r) ≡ outcomeOf f p (entry b r)
 
@@ -121,16 +121,16 @@ fieldsNoZero names s = noneZero (fromFields numberIn names (pieces closing s))
 abbrev pub namesNoZero : List ℕ → Bool
 namesNoZero s = passes fieldsNoZero s
 
-abbrev pub OnlyLaw : Type 0
-OnlyLaw = (b : Bool) (r : Request) (s : List ℕ) → readLine s ≡ asked b r → namesNoZero s ≡ true → s ≡ entryText b r
+abbrev pub TextOnlyLaw : Type 0
+TextOnlyLaw = (b : Bool) (r : Request) (s : List ℕ) → readLine s ≡ asked b r → namesNoZero s ≡ true → s ≡ entryText b r
 
-abbrev pub NoZeroLaw : Type 0
-NoZeroLaw = (b : Bool) (r : Request) → Holds r → namesNoZero (entryText b r) ≡ true
+abbrev pub TextNoZeroLaw : Type 0
+TextNoZeroLaw = (b : Bool) (r : Request) → Holds r → namesNoZero (entryText b r) ≡ true
 
 -- ---- its bytes
 
-abbrev pub LengthLaw : Type 0
-LengthLaw = (b : Bool) (r : Request) → length (entryText b r) ≤ 1024
+abbrev pub TextLengthLaw : Type 0
+TextLengthLaw = (b : Bool) (r : Request) → length (entryText b r) ≤ 1024
 
-abbrev pub OneLineLaw : Type 0
-OneLineLaw = (b : Bool) (r : Request) → oneLine (entryText b r) ≡ true
+abbrev pub TextLineLaw : Type 0
+TextLineLaw = (b : Bool) (r : Request) → oneLine (entryText b r) ≡ true

@@ -1,13 +1,13 @@
 -- The text of a call: it is read as the call, names no zero column, and is one line of at most 1,024 bytes. Assumes nothing.
 --
---   fields-length, call-length, entry-length   LengthLaw
+--   fields-length, call-length, entry-length   TextLengthLaw
 --   firsts, sludge-is, digester-is             a vector by its columns
 --   word-receive, settle-number, settle-rest   the parts of a text
 --   inner-around, text-call, text-line         a text in brackets
---   call-read, entry-read                      ReadLaw
---   asked-gives, entry-gives                   GivesLaw
---   call-no-zero, entry-no-zero                NoZeroLaw
---   fields-one, call-one, entry-one            OneLineLaw
+--   call-read, entry-read                      TextReadLaw
+--   asked-gives, entry-gives                   TextGivesLaw
+--   call-no-zero, entry-no-zero                TextNoZeroLaw
+--   fields-one, call-one, entry-one            TextLineLaw
 use mathlib.Core.Bool.{Bool, true, false, cond}
 use mathlib.Core.List.{List, [], _∷_, _++_, append-nil}
 use mathlib.Core.Path.{_≡_, refl, sym, ap, ap₂, _∙_}
@@ -44,7 +44,8 @@ use Rattle.writing.proofs.Laws.Decimal.{decimal-length}
 use Rattle.writing.proofs.Laws.OneLine.{One, one-append, one-labelled, one-column, allOne}
 use Rattle.lines.specs.Asking.{formOutcome, lineOutcome}
 use Rattle.composing.specs.Line.{fieldText, entryText, fieldsFrom, fieldsText, callText, askedBy}
-use Rattle.composing.specs.Line.{Columns, ownNumber, ReadLaw, GivesLaw, fieldsNoZero, NoZeroLaw, LengthLaw, OneLineLaw}
+use Rattle.composing.specs.Line.{Columns, ownNumber, TextReadLaw, TextGivesLaw}
+use Rattle.composing.specs.Line.{fieldsNoZero, TextNoZeroLaw, TextLengthLaw, TextLineLaw}
 use Rattle.composing.proofs.Laws.Number.{decimal-read}
 use Rattle.composing.proofs.Laws.Read.{plain-sludge, plain-digester, clear, allClear, clear-lacks, upTo-past, lacks-decimal}
 use Rattle.composing.proofs.Laws.Read.{Filled, fields-read, fields-no-zero, fields-start}
@@ -111,7 +112,7 @@ call-length (Return k) v d = number-length (ascii "return ") k (omega arith)
 call-length (Release k) v d = number-length (ascii "release ") k (omega arith)
 call-length (Recycle k) v d = number-length (ascii "recycle ") k (omega arith)
 
-pub entry-length : LengthLaw
+pub entry-length : TextLengthLaw
 entry-length b r = go b
   where
     t : List ℕ
@@ -227,7 +228,7 @@ preview-asked (Return k) v d = refl
 preview-asked (Release k) v d = refl
 preview-asked (Recycle k) v d = refl
 
-pub entry-read : ReadLaw
+pub entry-read : TextReadLaw
 entry-read true r h =
     preview-form-law (callText (r .call) (r .sludge) (r .digester)) (entry-length true r)
     ∙ ap previewLine (call-read (r .call) (r .sludge) (r .digester) (h .number) (h .sludge) (h .digester))
@@ -254,7 +255,7 @@ asked-gives f p b (Return k) v d = entry-same f p b (request (Return k)) _ refl
 asked-gives f p b (Release k) v d = entry-same f p b (request (Release k)) _ refl
 asked-gives f p b (Recycle k) v d = entry-same f p b (request (Recycle k)) _ refl
 
-pub entry-gives : GivesLaw
+pub entry-gives : TextGivesLaw
 unfolding lineOutcome
 entry-gives f m p b r h l =
     ap (λ (t : Bool). cond t (refused p 12) (formOutcome f p (readLine (entryText b r)))) (le-ltb m 512 l)
@@ -300,7 +301,7 @@ call-other (Return k) v d = sym (preview-word _ refl)
 call-other (Release k) v d = sym (preview-word _ refl)
 call-other (Recycle k) v d = sym (preview-word _ refl)
 
-pub entry-no-zero : NoZeroLaw
+pub entry-no-zero : TextNoZeroLaw
 entry-no-zero true r h =
     let t = callText (r .call) (r .sludge) (r .digester) in
     ap (λ (b : Bool). cond b (callPasses fieldsNoZero (formIn (previewText t))) (callPasses fieldsNoZero (previewText t)))
@@ -345,7 +346,7 @@ call-one (Return k) v d = one-bracketed (labelled (ascii "return ") k) (one-labe
 call-one (Release k) v d = one-bracketed (labelled (ascii "release ") k) (one-labelled (ascii "release ") k refl)
 call-one (Recycle k) v d = one-bracketed (labelled (ascii "recycle ") k) (one-labelled (ascii "recycle ") k refl)
 
-pub entry-one : OneLineLaw
+pub entry-one : TextLineLaw
 unfolding oneLine
 entry-one true r =
     let t = callText (r .call) (r .sludge) (r .digester) in

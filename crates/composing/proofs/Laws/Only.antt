@@ -18,7 +18,7 @@
 --   Words, look-only, number-only   a call with a number alone
 --   form-only, call-only            any call
 --   EntryIs, LineIs, line-only      and any line
---   entry-only                      OnlyLaw
+--   entry-only                      TextOnlyLaw
 use mathlib.Core.Bool.{Bool, true, false, cond, not, _&&_, false≢true}
 use mathlib.Core.List.{List, [], _∷_, _++_}
 use mathlib.Core.Path.{_≡_, refl, sym, ap, ap₂, subst, _∙_}
@@ -59,7 +59,7 @@ use Rattle.reading.proofs.Laws.Line.{brackets-two, preview-split, preview-ten}
 use Rattle.writing.specs.Answer.{columnText}
 use Rattle.writing.proofs.Laws.Decimal.{decimal-digits}
 use Rattle.composing.specs.Line.{fieldText, fieldsFrom, fieldsText, callText, entryText, askedBy}
-use Rattle.composing.specs.Line.{noneZero, fieldsNoZero, namesNoZero, OnlyLaw}
+use Rattle.composing.specs.Line.{noneZero, fieldsNoZero, namesNoZero, TextOnlyLaw}
 use Rattle.composing.proofs.Laws.Number.{decimal-only}
 use Rattle.composing.proofs.Laws.Column.{piece-text, same-at}
 
@@ -511,7 +511,7 @@ line-only s h = go (isPreview s) refl h
     go true e z = preview-line-is s (formIn s) (callBy readFields (formIn s)) (preview-is s e) (call-only (formIn s) z)
     go false e z = call-line-is s (callBy readFields s) (call-only s z)
 
-pub entry-only : OnlyLaw
+pub entry-only : TextOnlyLaw
 entry-only b r s e z = go (r .call) (subst (LineIs s) e (line-only s z))
   where
     go : (call : Call) → LineIs s (askedBy b call (r .sludge) (r .digester))
