@@ -22,7 +22,7 @@ pub struct Written {
     pub length: usize,
 }
 
-// Writes the line of a call with the vector that it takes, or of a preview of it; under 12 the buffer is left as it is.
+// Writes the line of a call with the vector that it takes, or of a preview of it, and a newline; under 12 the buffer is left as it is.
 pub fn write_line(buf: &mut [u8], r: Request, preview: bool) -> Written
     ensures { λ w. ⌜ LineWritten (now (buf .entry)) preview r w (now (buf .exit)) ⌝ }
 {

@@ -10,12 +10,20 @@ use vectors::Milligrams;
 // Buffers of no byte, of one, around 1,025, and longer.
 fn main() {
     let mut space = [0u8; 1100];
-    first(&mut space, 0);
-    first(&mut space, 1);
-    first(&mut space, 1024);
-    first(&mut space, 1025);
-    first(&mut space, 1026);
-    first(&mut space, 1100);
+    lent(&mut space, 0);
+    lent(&mut space, 1);
+    lent(&mut space, 1024);
+    lent(&mut space, 1025);
+    lent(&mut space, 1026);
+    lent(&mut space, 1100);
+}
+
+// The first n bytes of a space are lent, and a look behind them afterwards.
+fn lent(space: &mut [u8], n: usize) {
+    test_show::fill(space);
+    first(space, n);
+    test_show::number(b"behind the buffer of ", n as u64);
+    test_show::behind(space, n);
 }
 
 // The first n bytes of a space are lent.
