@@ -2,6 +2,7 @@
 --
 --   decimal-is       the kit's digits, as few as there can be, are a number's digits
 --   fewest-le        there are at most twenty of them
+--   digits-length    so many digits as are asked for
 --   decimal-length   there are at most twenty
 --   glyph-is         the byte of a digit
 --   decimal-digits   they are digits, and there is one

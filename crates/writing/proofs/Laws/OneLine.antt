@@ -3,7 +3,6 @@
 --   one-append    parts without a newline, one behind the other
 --   one-decimal   a number's digits
 --   one-labelled  a label and a number
---   one-name      the names of columns
 --   one-column    a column
 --   one-columns   the columns of a release
 --   one-answer    every answer
@@ -70,7 +69,7 @@ unfoldable pub allOne : List (List ℕ) → Bool
 allOne [] = true
 allOne (s ∷ ss) = oneLine s && allOne ss
 
-pub one-name : (names : List (List ℕ)) (k : ℕ) → allOne names ≡ true → One (getD names k [])
+one-name : (names : List (List ℕ)) (k : ℕ) → allOne names ≡ true → One (getD names k [])
 unfolding allOne oneLine
 one-name [] k h = refl
 one-name (s ∷ ss) zero h = both-true (oneLine s) (allOne ss) h .0
