@@ -13,6 +13,7 @@ mod figures;
 mod totals;
 mod units;
 
+pub use ceilings::ASM1_CEILINGS;
 pub use ceilings::TICK_CEILING;
 pub use ceilings::asm1_sum;
 pub use ceilings::asm1_sum_within;
