@@ -24,7 +24,7 @@ use Rattle.plant.specs.declared.record.Plant.{Plant}
 use Rattle.plant.specs.declared.answer.Call.{Call}
 use Rattle.plant.specs.declared.answer.Call.the-variants.{Receive, Feed, Settle, Return, Release, Recycle}
 use Rattle.plant.specs.declared.answer.Request.{Request}
-use Rattle.plant.specs.Balance.{entry, outcomeOf}
+use Rattle.plant.specs.Calls.{outcomeBy}
 use Rattle.reading.specs.declared.names.Vector.the-variants.{Sludge, Digester}
 use Rattle.reading.specs.declared.form.Form.the-variants.{Asked}
 use Rattle.reading.specs.declared.form.Line.{Line}
@@ -106,7 +106,7 @@ TextReadLaw = (b : Bool) (r : Request) → Holds r → readLine (entryText b r) 
 abbrev pub TextGivesLaw : Type 0
 TextGivesLaw =
     (f : Figures) (m : ℕ) (p : Plant) (b : Bool) (r : Request) → Holds r → 512 ≤ m
-    → lineOutcome f m p (entryText b r) ≡ outcomeOf f p (entry b r)
+    → lineOutcome f m p (entryText b r) ≡ outcomeBy f p b r
 
 -- ---- the only such line
 

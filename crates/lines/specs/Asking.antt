@@ -19,7 +19,7 @@ use Rattle.plant.specs.declared.answer.Call.{Call}
 use Rattle.plant.specs.declared.answer.Request.{Request}
 use Rattle.plant.specs.declared.answer.Outcome.{Outcome}
 use Rattle.plant.specs.Answer.{refused}
-use Rattle.plant.specs.Balance.{entry, outcomeOf}
+use Rattle.plant.specs.Calls.{outcomeBy}
 use Rattle.reading.specs.declared.form.Form.{Form}
 use Rattle.reading.specs.declared.form.Form.the-variants.{Asked, NotAForm}
 use Rattle.reading.specs.declared.form.Line.{Line}
@@ -34,7 +34,7 @@ abbrev pub requestOf : Call → Line → Request
 requestOf call l = record { call = call; sludge = l .sludge; digester = l .digester }
 
 abbrev pub askedOutcome : Figures → Plant → Form → Line → Outcome
-askedOutcome f p (Asked call b) l = outcomeOf f p (entry b (requestOf call l))
+askedOutcome f p (Asked call b) l = outcomeBy f p b (requestOf call l)
 askedOutcome f p NotAForm l = refused p 11
 
 abbrev pub formOutcome : Figures → Plant → Line → Outcome

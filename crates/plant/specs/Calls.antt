@@ -7,13 +7,14 @@
 --   fedTests, fed, settledTests, ..            parts of these that the code's parts cite
 --   ruleBy, stepBy, step                       any of them, by a request
 --   previewOf                                  a preview of it: E3
+--   outcomeBy                                  the one or the other
 --   refusalOf                                  the refusal that applies first, or 0
 --   tellsBy, toldOf                            what a call tells where none applies; the number and the values that a request is told
 --   TellsLaw, ExactLaw                         that an answer tells just these, and its number just the refusal
 --   request, receiving, feeding, ..            the requests
 --
 -- f is the set of figures; the code has the house set.
-use mathlib.Core.Bool.{cond, _&&_}
+use mathlib.Core.Bool.{Bool, cond, _&&_}
 use mathlib.Core.List.{List, [], _∷_}
 use mathlib.Core.Path.{_≡_}
 use Prim.Native.Nat.{ℕ, _+_}
@@ -167,6 +168,10 @@ step f p r = stepBy f p (r .call) (r .sludge) (r .digester)
 -- A preview answers as the call would on a copy of the record, and the record remains the one handed in: document 02, E3.
 unfoldable pub previewOf : Figures → Plant → Request → Outcome
 previewOf f p r = let o = step f p r in record { answer = o .answer; vector = o .vector; plant = p }
+
+-- the call of a request, or where b holds a preview of it
+abbrev pub outcomeBy : Figures → Plant → Bool → Request → Outcome
+outcomeBy f p b r = cond b (previewOf f p r) (step f p r)
 
 -- the first refusal that applies, or 0
 abbrev pub refusalOf : Figures → Plant → Request → ℕ

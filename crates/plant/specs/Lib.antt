@@ -1,5 +1,4 @@
 pub mod Record
 pub mod Answer
 pub mod Calls
-pub mod Balance
 pub mod Held

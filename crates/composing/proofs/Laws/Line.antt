@@ -27,8 +27,7 @@ use Rattle.plant.specs.declared.answer.Call.the-variants.{Receive, Feed, Settle
 use Rattle.plant.specs.Answer.{refused}
 use Rattle.plant.specs.declared.answer.Request.{Request}
 use Rattle.plant.specs.declared.answer.Outcome.{Outcome}
-use Rattle.plant.specs.Calls.{stepBy, step, previewOf, request, receiving, settling}
-use Rattle.plant.specs.Balance.{entry, outcomeOf}
+use Rattle.plant.specs.Calls.{stepBy, step, previewOf, outcomeBy, request, receiving, settling}
 use Rattle.reading.specs.declared.number.Number.the-variants.{Value}
 use Rattle.reading.specs.declared.names.Vector.the-variants.{Sludge, Digester}
 use Rattle.reading.specs.declared.fields.Fields.{Fields}
@@ -239,14 +238,14 @@ entry-read false r h = call-read (r .call) (r .sludge) (r .digester) (h .number)
 
 -- a call, or its preview, by what its step gives
 entry-same : (f : Figures) (p : Plant) (b : Bool) (r s : Request) → step f p r ≡ step f p s
-    → outcomeOf f p (entry b r) ≡ outcomeOf f p (entry b s)
+    → outcomeBy f p b r ≡ outcomeBy f p b s
 unfolding previewOf
 entry-same f p true r s e = ap (λ (o : Outcome). record { answer = o .answer; vector = o .vector; plant = p }) e
 entry-same f p false r s e = e
 
 -- no call looks at the vector that it does not take
 asked-gives : (f : Figures) (p : Plant) (b : Bool) (call : Call) (v d : List ℕ)
-    → formOutcome f p (askedBy b call v d) ≡ outcomeOf f p (entry b (record { call = call; sludge = v; digester = d }))
+    → formOutcome f p (askedBy b call v d) ≡ outcomeBy f p b (record { call = call; sludge = v; digester = d })
 unfolding stepBy
 asked-gives f p b Receive v d = entry-same f p b (receiving v) _ refl
 asked-gives f p b (Feed k) v d = entry-same f p b (request (Feed k)) _ refl

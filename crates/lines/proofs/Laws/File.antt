@@ -10,11 +10,10 @@ use Rattle.vectors.specs.Totals.{asm1Cod, asm1Tkn, asm1Oxygen, asm1Nitrate}
 use Rattle.plant.specs.declared.record.Plant.{Plant}
 use Rattle.plant.specs.declared.holding.HeldTotals.{HeldTotals}
 use Rattle.plant.specs.Record.{freshPlant}
-use Rattle.plant.specs.Balance.{Entry, after, released, burnt, gas, stripped, oxygenReduced, nitrateReduced}
-use Rattle.plant.specs.Balance.{codIn, tknIn, oxygenIn, nitrateIn}
-use Rattle.plant.specs.Held.{heldTotals, heldOf}
-use Rattle.plant.proofs.Laws.Balance.{balance}
-use Rattle.plant.proofs.Laws.Within.{held-after}
+use Rattle.plant.specs.Held.{codIn, tknIn, oxygenIn, nitrateIn, heldTotals, heldOf}
+use Rattle.balances.specs.Balance.{Entry, after, released, burnt, gas, stripped, oxygenReduced, nitrateReduced}
+use Rattle.balances.proofs.Laws.Balance.{balance}
+use Rattle.balances.proofs.Laws.Within.{held-after}
 use Rattle.lines.specs.Session.{cutLines, afterLines, entries, FileBalanced, FileLaw}
 use Rattle.lines.proofs.Laws.Session.{after-entries}
 

@@ -16,7 +16,7 @@ use borrow.Author.Tests.{leb-true, leb-false}
 use Rattle.vectors.specs.declared.figures.Figures.{Figures}
 use Rattle.plant.specs.declared.record.Plant.{Plant}
 use Rattle.plant.specs.declared.answer.Outcome.{Outcome}
-use Rattle.plant.specs.Balance.{after}
+use Rattle.balances.specs.Balance.{after}
 use Rattle.reading.specs.declared.form.Form.{Form}
 use Rattle.reading.specs.declared.form.Form.the-variants.{Asked, NotAForm}
 use Rattle.reading.specs.declared.form.Line.{Line}
@@ -101,7 +101,8 @@ printed-whole f p bs = ap (said f) (blocks-joined f (start p) bs) ∙ from-held 
 module _ (f : Figures) (ls : List (List ℕ)) where
   after-entry : (form : Form) (l : Line) (p : Plant) → ((q : Plant) → afterLines f q ls ≡ after f q (entries ls))
       → afterLines f (askedOutcome f p form l .plant) ls ≡ after f p (entryOf form l (entries ls))
-  after-entry (Asked call b) l p h = h (askedOutcome f p (Asked call b) l .plant)
+  after-entry (Asked call true) l p h = h (askedOutcome f p (Asked call true) l .plant)
+  after-entry (Asked call false) l p h = h (askedOutcome f p (Asked call false) l .plant)
   after-entry NotAForm l p h = h p
 
 pub after-entries : (f : Figures) (p : Plant) (ls : List (List ℕ)) → afterLines f p ls ≡ after f p (entries ls)

@@ -18,8 +18,7 @@ use Rattle.vectors.specs.declared.figures.Figures.{Figures}
 use Rattle.plant.specs.declared.record.Plant.{Plant}
 use Rattle.plant.specs.declared.holding.HeldTotals.{HeldTotals}
 use Rattle.plant.specs.Record.{recordWithin, thousandths}
-use Rattle.plant.specs.Balance.{codIn, tknIn, oxygenIn, nitrateIn}
-use Rattle.plant.specs.Held.{heldTotals, heldOf}
+use Rattle.plant.specs.Held.{codIn, tknIn, oxygenIn, nitrateIn, heldTotals, heldOf}
 
 pub sludge-within : (p : Plant) → recordWithin p ≡ true → within asm1Ceilings p.sludge ≡ true
 unfolding recordWithin
@@ -66,7 +65,8 @@ closes-not old new gas h = sym (ne-eqb old (new + gas) (λ z. omega arith))
 -- ---- what is held, by the record's test
 
 module _ (f : Figures) (p : Plant) where
-  pub held-within : {x : HeldTotals} → recordWithin p ≡ true → x ≡ heldTotals 0 (codIn p) (tknIn f p) (oxygenIn p) (nitrateIn p) → x ≡ heldOf f p
+  pub held-within : {x : HeldTotals} → recordWithin p ≡ true → x ≡ heldTotals 0 (codIn p) (tknIn f p) (oxygenIn p) (nitrateIn p)
+      → x ≡ heldOf f p
   unfolding heldOf
   held-within h e = rw h e
 

@@ -1,16 +1,13 @@
--- The record stays within its ceilings over any list of calls and previews. Assumes nothing.
+-- The record stays within its ceilings over any call. Assumes nothing.
 --
 --   rest-within    what a draw leaves is within the ceilings
 --   tanks-within   three tanks within their ceilings are a record within its own
 --   done-within    each call leaves such a record where no refusal applies
 --   step-within    any call does
---   outcome-within and any preview
---   after-within   so does every list of them
 --   fresh-within   a fresh record is one
---   held-after     what is held after any list on a fresh record is told, never refused
 use mathlib.Core.Bool.{true}
 use mathlib.Core.List.{List, [], _∷_}
-use mathlib.Core.Path.{_≡_, refl, sym}
+use mathlib.Core.Path.{_≡_, refl}
 use Prim.Native.Nat.{ℕ}
 use native.Mathlib.Omega.{arith}
 use lib.Dec.{leb}
@@ -26,10 +23,8 @@ use Rattle.plant.specs.declared.answer.Request.{Request}
 use Rattle.plant.specs.declared.answer.Outcome.{Outcome}
 use Rattle.plant.specs.Record.{freshPlant, recordWithin}
 use Rattle.plant.specs.Answer.{first}
-use Rattle.plant.specs.Calls.{receive, feed, settle, giveBack, release, recycle, ruleBy, stepBy, step, previewOf, refusalOf}
-use Rattle.plant.specs.Balance.{Entry, calls, previews, outcomeOf, after, codIn, tknIn, oxygenIn, nitrateIn}
-use Rattle.plant.specs.Held.{heldTotals, heldOf}
-use Rattle.plant.proofs.Laws.Record.{sludge-within, digester-within, reject-within, held-within}
+use Rattle.plant.specs.Calls.{receive, feed, settle, giveBack, release, recycle, ruleBy, stepBy, step, refusalOf}
+use Rattle.plant.proofs.Laws.Record.{sludge-within, digester-within, reject-within}
 use Rattle.plant.proofs.Laws.Decision.{decide-case, first-passed, unless-passed}
 
 -- ---- vectors and records
@@ -84,21 +79,6 @@ unfolding stepBy
 step-within f p r h =
     decide-case Stays p (refusalOf f p r) _ (done-within f p h (r .call) (r .sludge) (r .digester)) (λ n. h)
 
--- ---- a list of calls and previews
-
-outcome-within : (f : Figures) (p : Plant) (e : Entry) → recordWithin p ≡ true → recordWithin (outcomeOf f p e .plant) ≡ true
-unfolding previewOf
-outcome-within f p (calls r) h = step-within f p r h
-outcome-within f p (previews r) h = h
-
-pub after-within : (f : Figures) (p : Plant) (es : List Entry) → recordWithin p ≡ true → recordWithin (after f p es) ≡ true
-after-within f p [] h = h
-after-within f p (e ∷ es) h = after-within f (outcomeOf f p e .plant) es (outcome-within f p e h)
-
 pub fresh-within : recordWithin freshPlant ≡ true
 unfolding recordWithin within
 fresh-within = refl
-
-pub held-after : (f : Figures) (es : List Entry)
-    → let p = after f freshPlant es in heldOf f p ≡ heldTotals 0 (codIn p) (tknIn f p) (oxygenIn p) (nitrateIn p)
-held-after f es = sym (held-within f (after f freshPlant es) (after-within f freshPlant es fresh-within) refl)

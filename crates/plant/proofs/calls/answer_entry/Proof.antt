@@ -5,7 +5,7 @@ use Rattle.vectors.specs.Figures.{house}
 use Rattle.plant.specs.declared.record.Plant.{Plant}
 use Rattle.plant.specs.declared.answer.Request.{Request}
 use Rattle.plant.specs.declared.answer.Outcome.{Outcome}
-use Rattle.plant.specs.Balance.{entry, outcomeOf}
+use Rattle.plant.specs.Calls.{outcomeBy}
 use Rattle.plant.proofs.Laws.Calls.{previewed}
 use borrow.Author.Needs.{needs}
 use Rattle.plant.proofs.calls.answer_entry.Statement.{statement}
@@ -14,10 +14,10 @@ use Rattle.plant.proofs.calls.answer_entry.Tie as tie
 answer-request-requires : tie.Need-answer-request-requires
 answer-request-requires c κs = search needs
 
--- each outcome is that of the entry whose kind it is
-by-kind : (p : Plant) (r : Request) (x : Bool) {b : Bool} {o : Outcome} → b ≡ x → o ≡ outcomeOf house p (entry x r)
-    → o ≡ outcomeOf house p (entry b r)
-by-kind p r x e h = h ∙ ap (λ (y : Bool). outcomeOf house p (entry y r)) (sym e)
+-- each outcome is that of the call, or of the preview, as b says
+by-kind : (p : Plant) (r : Request) (x : Bool) {b : Bool} {o : Outcome} → b ≡ x → o ≡ outcomeBy house p x r
+    → o ≡ outcomeBy house p b r
+by-kind p r x e h = h ∙ ap (λ (y : Bool). outcomeBy house p y r) (sym e)
 
 returns : tie.Need-returns
 returns c =

@@ -2,7 +2,7 @@
 -- (a preview counts for nothing).
 --
 --   Entry                                   what stands in a list: a call, or a preview of one
---   entry, outcomeOf                        an entry by whether it is a preview; its outcome
+--   entry                                   an entry by whether it is a preview
 --   after                                   the record after a list, each entry on the record that the one before returned
 --   sumOver                                 a number that each call and its outcome give, added up over the list; previews are skipped
 --   accepted                                an answer that tells no refusal
@@ -12,7 +12,6 @@
 --   burnt, oxygenReduced, nitrateReduced    what accepted feeds tell
 --   gas                                     the gas COD handed to accepted settles
 --   stripped                                what accepted returns tell
---   codIn, tknIn, oxygenIn, nitrateIn       what is in the tanks
 --   withoutPreviews, SkipLaw                a list without its previews: the same record is after it, and every sum is the same.
 --                                           proofs/Laws/Balance.antt proves it: previews-skipped
 --   RecycleLaw                              a recycle, refused or not, leaves what is in the three tanks together as it was.
@@ -29,16 +28,17 @@ use Prim.Native.Nat.{ℕ, _+_}
 use lib.Dec.{eqb}
 use Rattle.vectors.specs.declared.figures.Figures.{Figures}
 use Rattle.vectors.specs.Figures.{Permitted}
-use Rattle.vectors.specs.Totals.{asm1Cod, asm1Tkn, asm1Oxygen, asm1Nitrate, digesterCod, digesterTkn, digesterOxygen, digesterNitrate}
+use Rattle.vectors.specs.Totals.{asm1Cod, asm1Tkn, asm1Oxygen, asm1Nitrate}
 use Rattle.plant.specs.declared.record.Plant.{Plant}
 use Rattle.plant.specs.declared.answer.Answer.{Answer}
 use Rattle.plant.specs.declared.answer.Call.{Call}
 use Rattle.plant.specs.declared.answer.Call.the-variants as call
 use Rattle.plant.specs.declared.answer.Request.{Request}
 use Rattle.plant.specs.declared.answer.Outcome.{Outcome}
 use Rattle.plant.specs.Record.{freshPlant}
 use Rattle.plant.specs.Answer.{told}
 use Rattle.plant.specs.Calls.{step, previewOf, recycling}
+use Rattle.plant.specs.Held.{codIn, tknIn, oxygenIn, nitrateIn}
 
 -- ---- a list of calls and previews
 
@@ -50,13 +50,10 @@ pub data Entry : Type 0 where
 abbrev pub entry : Bool → Request → Entry
 entry b r = cond b (previews r) (calls r)
 
-abbrev pub outcomeOf : Figures → Plant → Entry → Outcome
-outcomeOf f p (calls r) = step f p r
-outcomeOf f p (previews r) = previewOf f p r
-
 abbrev pub after : Figures → Plant → List Entry → Plant
 after f p [] = p
-after f p (e ∷ es) = after f (outcomeOf f p e .plant) es
+after f p (calls r ∷ es) = after f (step f p r .plant) es
+after f p (previews r ∷ es) = after f (previewOf f p r .plant) es
 
 abbrev pub sumOver : (Request → Outcome → ℕ) → Figures → Plant → List Entry → ℕ
 sumOver of f p [] = 0
@@ -123,20 +120,6 @@ module _ (f : Figures) (es : List Entry) where
 
   abbrev pub stripped : ℕ
   stripped = sumOver (λ r o. told (o .answer) .stripped) f freshPlant es
-
--- ---- in the tanks
-
-abbrev pub codIn : Plant → ℕ
-codIn p = asm1Cod p.sludge + digesterCod p.digester + asm1Cod p.reject
-
-abbrev pub tknIn : Figures → Plant → ℕ
-tknIn f p = asm1Tkn f p.sludge + digesterTkn f p.digester + asm1Tkn f p.reject
-
-abbrev pub oxygenIn : Plant → ℕ
-oxygenIn p = asm1Oxygen p.sludge + digesterOxygen p.digester + asm1Oxygen p.reject
-
-abbrev pub nitrateIn : Plant → ℕ
-nitrateIn p = asm1Nitrate p.sludge + digesterNitrate p.digester + asm1Nitrate p.reject
 
 -- ---- the claims
 

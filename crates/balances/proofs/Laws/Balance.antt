@@ -16,8 +16,6 @@ use Prim.Native.Nat.{ℕ, _+_, _≤_}
 use native.Mathlib.Omega.{arith}
 use borrow.Author.Tests.{ne-eqb}
 use Rattle.vectors.specs.declared.figures.Figures.{Figures}
-use Rattle.interface.specs.declared.feed.Fed as inFed
-use Rattle.interface.specs.declared.returning.Returned as inReturned
 use Rattle.vectors.specs.Figures.{Permitted}
 use Rattle.vectors.specs.Draw.{drawn}
 use Rattle.vectors.specs.Totals.{asm1Cod, asm1Tkn, asm1Oxygen, asm1Nitrate, digesterCod, digesterTkn, digesterOxygen, digesterNitrate}
@@ -27,21 +25,21 @@ use Rattle.vectors.specs.Laws.{Linear}
 use Rattle.vectors.proofs.Laws.Totals.{total-laws}
 use Rattle.interface.proofs.Laws.Feed.{feed-keeps}
 use Rattle.interface.proofs.Laws.Return.{return-keeps}
 use Rattle.plant.specs.declared.record.Plant.{Plant}
 use Rattle.plant.specs.declared.answer.Answer.the-variants.{Fed, Returned}
 use Rattle.plant.specs.declared.answer.Call.{Call}
 use Rattle.plant.specs.declared.answer.Call.the-variants as call
 use Rattle.plant.specs.declared.answer.Request.{Request}
 use Rattle.plant.specs.declared.answer.Outcome.{Outcome}
 use Rattle.plant.specs.declared.answer.Told.{Told}
 use Rattle.plant.specs.Record.{noColumns, freshPlant, thousandths}
 use Rattle.plant.specs.Answer.{nothing, told, refused, unless, first}
 use Rattle.plant.specs.Calls.{receive, feed, settle, giveBack, release, recycle, ruleBy, stepBy, step, previewOf, recycling}
-use Rattle.plant.specs.Balance.{Entry, calls, previews, after, sumOver, withoutPreviews}
-use Rattle.plant.specs.Balance.{counts, ifAccepted, receivedBy, releasedBy, gasBy, BalanceLaw, RecycleLaw, SkipLaw}
 use Rattle.plant.proofs.Laws.Record.{thousandths-le}
 use Rattle.plant.proofs.Laws.Calls.{settle-passed}
 use Rattle.plant.proofs.Laws.Decision.{decide-case, first-passed, unless-passed}
+use Rattle.balances.specs.Balance.{Entry, calls, previews, after, sumOver, withoutPreviews}
+use Rattle.balances.specs.Balance.{counts, ifAccepted, receivedBy, releasedBy, gasBy, BalanceLaw, RecycleLaw, SkipLaw}
 
 -- ---- quantities
 

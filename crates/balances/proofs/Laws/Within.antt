@@ -1,0 +1,25 @@
+-- The record stays within its ceilings over any list of calls and previews. Assumes nothing.
+--
+--   after-within   every list of them leaves a record within its ceilings
+--   held-after     what is held after any list on a fresh record is told, never refused
+use mathlib.Core.Bool.{true}
+use mathlib.Core.List.{List, [], _∷_}
+use mathlib.Core.Path.{_≡_, refl, sym}
+use Rattle.vectors.specs.declared.figures.Figures.{Figures}
+use Rattle.plant.specs.declared.record.Plant.{Plant}
+use Rattle.plant.specs.Record.{freshPlant, recordWithin}
+use Rattle.plant.specs.Calls.{step, previewOf}
+use Rattle.plant.specs.Held.{codIn, tknIn, oxygenIn, nitrateIn, heldTotals, heldOf}
+use Rattle.plant.proofs.Laws.Record.{held-within}
+use Rattle.plant.proofs.Laws.Within.{step-within, fresh-within}
+use Rattle.balances.specs.Balance.{Entry, calls, previews, after}
+
+pub after-within : (f : Figures) (p : Plant) (es : List Entry) → recordWithin p ≡ true → recordWithin (after f p es) ≡ true
+unfolding previewOf
+after-within f p [] h = h
+after-within f p (calls r ∷ es) h = after-within f (step f p r .plant) es (step-within f p r h)
+after-within f p (previews r ∷ es) h = after-within f p es h
+
+pub held-after : (f : Figures) (es : List Entry)
+    → let p = after f freshPlant es in heldOf f p ≡ heldTotals 0 (codIn p) (tknIn f p) (oxygenIn p) (nitrateIn p)
+held-after f es = sym (held-within f (after f freshPlant es) (after-within f freshPlant es fresh-within) refl)
