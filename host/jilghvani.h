@@ -5,9 +5,9 @@
  *   - the sizes, the places of the columns, and the layout of a plant record,
  *   - the refusals and their texts,
  *   - the functions: the two on text, the six that write a call as a line, the
- *     calls by numbers, the two conversions by themselves, and the two for a
- *     solver's proposal. Above each stands who owns what, what is read and
- *     written, and what a refusal leaves.
+ *     calls by numbers, the one for a laboratory sheet, the two conversions by
+ *     themselves, and the two for a solver's proposal. Above each stands who owns
+ *     what, what is read and written, and what a refusal leaves.
  *
  * Memory. A record is an array of 52 uint64_t that the caller owns, and so are
  * vectors, told numbers, lines and buffers. There is no other state: the library
@@ -22,8 +22,8 @@
  * same call. What it only reads may: jilghvani_gap takes the digester's columns
  * of its own record as d, and jilghvani_settle does not.
  *
- * Pointers. Records, vectors and told numbers are aligned as uint64_t is; lines
- * and buffers stand anywhere. No pointer may be null, except that of a line or a
+ * Pointers. Records, vectors and told numbers are aligned as uint64_t is, the
+ * values of a sheet as float is; its kinds, lines and buffers stand anywhere. No pointer may be null, except that of a line or a
  * buffer whose length is 0.
  *
  * Refusals. A function by numbers gives the refusal's number, or 0 where it is
@@ -35,7 +35,8 @@
  * Counts. Every number is a whole count; a vector is a mass and no
  * concentration. Ticks go up to 10^16, past 2^53, so that a double does not hold
  * each of them; those of COD, oxygen and millimoles, up to 10^12, it does. Keep
- * counts in integers. All that an accepted call takes or gives is below 10^17,
+ * counts in integers; who has grams hands them over as a sheet
+ * (jilghvani_sheet). All that an accepted call takes or gives is below 10^17,
  * so that a signed integer of 64 bits holds it as well.
  *
  * The columns of a record stand in this order (mg: COD and oxygen in mg; ticks:
@@ -70,9 +71,9 @@ extern "C" {
 #endif
 
 /* The version of this header, and its three numbers. */
-#define JILGHVANI_VERSION "0.10.0"
+#define JILGHVANI_VERSION "0.11.0"
 #define JILGHVANI_VERSION_MAJOR 0
-#define JILGHVANI_VERSION_MINOR 10
+#define JILGHVANI_VERSION_MINOR 11
 #define JILGHVANI_VERSION_PATCH 0
 
 /* Sizes, and the places of columns: record[JILGHVANI_DIGESTER_AT +
@@ -90,6 +91,11 @@ enum {
     JILGHVANI_LINE = 1024,    /* the longest line that is read; no form is longer
                                * than 739 bytes, so that a longer line gets refusal
                                * 11, or 12 before it where the buffer is short */
+
+    /* the kinds of a sheet's entries */
+    JILGHVANI_MEASURED = 0,    /* a measured value */
+    JILGHVANI_BELOW_LIMIT = 1, /* a result below a detection limit, with that limit */
+    JILGHVANI_NOT_SAMPLED = 2, /* none */
 
     /* the columns of an ASM1 vector */
     JILGHVANI_ASM1_SI = 0,    /* soluble inert COD, mg */
@@ -149,7 +155,9 @@ enum jilghvani_refusal {
     JILGHVANI_CARRIED_DIFFERS = 9,
     JILGHVANI_DESTINATION_ABOVE_CEILING = 10,
     JILGHVANI_NO_FORM = 11,
-    JILGHVANI_BUFFER_SHORT = 12
+    JILGHVANI_BUFFER_SHORT = 12,
+    JILGHVANI_VALUE_NO_AMOUNT = 13,
+    JILGHVANI_VALUE_ABOVE_CEILING = 14
 };
 
 /* The text of a refusal's number: a constant string, for any number, that nobody
@@ -183,6 +191,10 @@ static inline const char *jilghvani_refusal_text(uint64_t refusal)
         return "the line is no form";
     case JILGHVANI_BUFFER_SHORT:
         return "the buffer has fewer than 512 bytes, or 1,025 for a call's line";
+    case JILGHVANI_VALUE_NO_AMOUNT:
+        return "a value or limit is negative, infinite or no number, or its kind is none";
+    case JILGHVANI_VALUE_ABOVE_CEILING:
+        return "a value's or limit's count is above its column's ceiling";
     default:
         return "no refusal has this number";
     }
@@ -355,6 +367,37 @@ uint64_t jilghvani_recycle(uint64_t record[JILGHVANI_COLUMNS], uint64_t k);
  * Record and told must not overlap. Gives 0 or the refusal: 1. */
 uint64_t jilghvani_totals(const uint64_t record[JILGHVANI_COLUMNS],
                           uint64_t told[4]);
+
+/* ---- A laboratory sheet ---- */
+
+/* Sheet: counts what a laboratory sends in single-precision grams (salk in moles)
+ * and receives it. The thirteen entries stand in the order of the ASM1 columns.
+ * A measured value counts as the floor of its exact binary value times 1,000 in
+ * si to so and salk, and times 10^7 in sno to xnd. A result below a detection
+ * limit counts as zero, and the limit's count, by the same rule, is told. An
+ * entry that was not sampled counts as zero, and how many there are is told.
+ * Minus zero counts as zero.
+ *
+ * record    the caller's 52 columns, read and written; the sludge tank is changed
+ *           where the call is accepted. A refused one leaves every column as it
+ *           was.
+ * kinds     13 numbers that the caller owns, read and never written: 0, 1 or 2
+ *           (JILGHVANI_MEASURED, _BELOW_LIMIT, _NOT_SAMPLED). Any other gets
+ *           refusal 13 at that column.
+ * values    13 floats that the caller owns, read and never written: the value or
+ *           the limit of each entry, any bits at all. The one beside kind 2 or
+ *           beside a kind that is none is not read.
+ * told      four numbers that the caller owns, all written: the counts of the
+ *           limits, added up in milligrams (COD and oxygen), in ticks and in
+ *           millimoles, and the number of entries not sampled; four zeros where
+ *           the call is refused.
+ *
+ * Record and told must not overlap each other, kinds or values. Gives 0 or the
+ * refusal: 13 or 14, that of the first column that is bad, then 1, 10. Of one
+ * column 13 comes before 14. */
+uint64_t jilghvani_sheet(uint64_t record[JILGHVANI_COLUMNS],
+                         const uint8_t kinds[JILGHVANI_ASM1],
+                         const float values[JILGHVANI_ASM1], uint64_t told[4]);
 
 /* ---- The conversions by themselves ---- */
 

@@ -1,10 +1,11 @@
--- The balances over a list of calls: document 01, "Demand 3", and document 02, E1 (a recycle is neither received nor released) and E3
--- (a preview counts for nothing).
+-- The balances over a list of calls: document 01, "Demand 3", and document 02, E1 (a recycle is neither received nor released), E3 (a
+-- preview counts for nothing) and E6 (a sheet counts by its counts).
 --
---   Entry                                   what stands in a list: a call, or a preview of one
+--   Entry                                   what stands in a list: a call, a preview of one, or a laboratory sheet
 --   entry                                   an entry by whether it is a preview
 --   after                                   the record after a list, each entry on the record that the one before returned
 --   sumOver                                 a number that each call and its outcome give, added up over the list; previews are skipped
+--   sheetAdds                               what a sheet adds to it: a sheet is a receive of its counts, one with a bad column nothing
 --   accepted                                an answer that tells no refusal
 --   counts                                  what a call counts for: a receive takes its vector in, a release hands one out, a settle
 --                                           lets gas go; of the others, recycles among them, only what they tell is counted
@@ -14,13 +15,16 @@
 --   stripped                                what accepted returns tell
 --   withoutPreviews, SkipLaw                a list without its previews: the same record is after it, and every sum is the same.
 --                                           proofs/Laws/Balance.antt proves it: previews-skipped
+--   sheetsAsCalls, SheetLaw                 a list with its sheets as receives of their counts, likewise.
+--                                           proofs/Laws/Balance.antt proves it: sheets-as-calls
 --   RecycleLaw                              a recycle, refused or not, leaves what is in the three tanks together as it was.
 --                                           proofs/Laws/Balance.antt proves it: recycle-holds
---   Balanced, BalanceLaw                    the four balances, for every list of calls and previews and every permitted set of figures.
+--   Balanced, BalanceLaw                    the four balances, for every list of calls, previews and sheets and every permitted set of
+--                                           figures.
 --                                           proofs/Laws/Balance.antt proves it: balance
 --
--- A list holds everything that is handed to its calls and previews: any k, any gas, any vector of any length, honest or not. Its sums
--- are whole numbers without a ceiling.
+-- A list holds everything that is handed to its calls, previews and sheets: any k, any gas, any vector and any entries of any length,
+-- honest or not. Its sums are whole numbers without a ceiling.
 use mathlib.Core.Bool.{Bool, true, false, cond}
 use mathlib.Core.List.{List, [], _∷_}
 use mathlib.Core.Path.{_≡_}
@@ -37,16 +41,19 @@ use Rattle.plant.specs.declared.answer.Request.{Request}
 use Rattle.plant.specs.declared.answer.Outcome.{Outcome}
 use Rattle.plant.specs.Record.{freshPlant}
 use Rattle.plant.specs.Answer.{told}
-use Rattle.plant.specs.Calls.{step, previewOf, recycling}
+use Rattle.plant.specs.Calls.{step, previewOf, receiving, recycling}
 use Rattle.plant.specs.Held.{codIn, tknIn, oxygenIn, nitrateIn}
+use Rattle.sheets.specs.declared.finding.Finding.{Finding}
+use Rattle.sheets.specs.Sheet.{refusalIn, countsOf, sheetStep}
 
--- ---- a list of calls and previews
+-- ---- a list of calls, previews and sheets
 
 pub data Entry : Type 0 where
   calls : Request → Entry
   previews : Request → Entry
+  sheets : List Finding → Entry
 
--- by whether it is a preview
+-- a call or a preview, by whether it is a preview
 abbrev pub entry : Bool → Request → Entry
 entry b r = cond b (previews r) (calls r)
 
@@ -54,11 +61,17 @@ abbrev pub after : Figures → Plant → List Entry → Plant
 after f p [] = p
 after f p (calls r ∷ es) = after f (step f p r .plant) es
 after f p (previews r ∷ es) = after f (previewOf f p r .plant) es
+after f p (sheets s ∷ es) = after f (sheetStep f p s .plant) es
+
+-- a sheet of which no column is bad adds what the receive of its counts adds
+abbrev pub sheetAdds : (Request → Outcome → ℕ) → Figures → Plant → List Finding → ℕ
+sheetAdds of f p s = let r = receiving (countsOf s) in cond (eqb (refusalIn s) 0) (of r (step f p r)) 0
 
 abbrev pub sumOver : (Request → Outcome → ℕ) → Figures → Plant → List Entry → ℕ
 sumOver of f p [] = 0
 sumOver of f p (calls r ∷ es) = of r (step f p r) + sumOver of f (step f p r .plant) es
 sumOver of f p (previews r ∷ es) = sumOver of f (previewOf f p r .plant) es
+sumOver of f p (sheets s ∷ es) = sheetAdds of f p s + sumOver of f (sheetStep f p s .plant) es
 
 -- ---- what one call adds to the sums, by the call and its answer alone
 
@@ -147,6 +160,7 @@ abbrev pub withoutPreviews : List Entry → List Entry
 withoutPreviews [] = []
 withoutPreviews (calls r ∷ es) = calls r ∷ withoutPreviews es
 withoutPreviews (previews r ∷ es) = withoutPreviews es
+withoutPreviews (sheets s ∷ es) = sheets s ∷ withoutPreviews es
 
 pub record SameList (f : Figures) (p : Plant) (ds es : List Entry) : Type 0 where
   pub plant : after f p ds ≡ after f p es
@@ -154,3 +168,13 @@ pub record SameList (f : Figures) (p : Plant) (ds es : List Entry) : Type 0 wher
 
 abbrev pub SkipLaw : Type 0
 SkipLaw = (f : Figures) (p : Plant) (es : List Entry) → SameList f p es (withoutPreviews es)
+
+-- document 02, E6: the balances start from the counts
+abbrev pub sheetsAsCalls : List Entry → List Entry
+sheetsAsCalls [] = []
+sheetsAsCalls (calls r ∷ es) = calls r ∷ sheetsAsCalls es
+sheetsAsCalls (previews r ∷ es) = previews r ∷ sheetsAsCalls es
+sheetsAsCalls (sheets s ∷ es) = cond (eqb (refusalIn s) 0) (calls (receiving (countsOf s)) ∷ sheetsAsCalls es) (sheetsAsCalls es)
+
+abbrev pub SheetLaw : Type 0
+SheetLaw = (f : Figures) (p : Plant) (es : List Entry) → SameList f p es (sheetsAsCalls es)

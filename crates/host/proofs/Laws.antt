@@ -1,3 +1,4 @@
 -- Laws of the host's calls.
 pub mod Record
 pub mod Calls
+pub mod Sheet

@@ -6,6 +6,7 @@
 --   Called               a call of the record by numbers: the columns behind it and the refusal's number
 --   CalledOut            the same, with what the call tells or hands out
 --   fourOf, strippedOf   what a feed tells, and a return
+--   SheetCalled          a laboratory sheet, with the four numbers that it tells (unseenOf)
 --   TotalsCalled         what is in the tanks, by numbers
 --   AsmToAdmCalled, AdmToAsmCalled   the conversions of a vector by itself
 --   CloseCalled, GapCalled           a proposal closed, and how far off it is
@@ -26,6 +27,9 @@ use Rattle.plant.specs.declared.answer.Request.{Request}
 use Rattle.plant.specs.declared.holding.HeldTotals.{HeldTotals}
 use Rattle.plant.specs.Calls.{step}
 use Rattle.plant.specs.Held.{heldOf}
+use Rattle.sheets.specs.declared.finding.Finding.{Finding}
+use Rattle.sheets.specs.declared.call.Unseen.{Unseen}
+use Rattle.sheets.specs.Sheet.{sheetStep}
 use Rattle.closing.specs.declared.Gaps.{Gaps}
 use Rattle.closing.specs.Closing.{closeOf, gapOf}
 use Rattle.writing.specs.Buffer.{Answered}
@@ -68,6 +72,16 @@ strippedOf o = told (o .answer) .stripped ∷ []
 
 abbrev pub vectorOf : Outcome → List ℕ
 vectorOf o = o .vector
+
+-- ---- a laboratory sheet s
+
+abbrev pub unseenOf : Unseen → List ℕ
+unseenOf u = u .milligrams .0 ∷ u .ticks .0 ∷ u .millimoles .0 ∷ u .unsampled ∷ []
+
+pub record SheetCalled (f : Figures) (cs : List ℕ) (s : List Finding) (r : ℕ) (es ts : List ℕ) : Type 0 where
+  pub columns : es ≡ columnsAt (sheetStep f (plantAt cs) s .plant)
+  pub refusal : r ≡ sheetStep f (plantAt cs) s .refusal
+  pub told : ts ≡ unseenOf (sheetStep f (plantAt cs) s .unseen)
 
 -- ---- what is in the tanks
 

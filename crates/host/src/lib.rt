@@ -4,11 +4,13 @@
 //   text         the call on a line, and the held line
 //   composed     calls by numbers as lines
 //   numbers      the record's calls by numbers, and what is in the tanks
+//   laboratory   a laboratory sheet by kinds and values
 //   conversions  the two conversions of a vector by itself
 //   proposals    a proposal for settle: what closes it, and how far off it is
 //   record       52 columns and the plant record that they stand for
 mod composed;
 mod conversions;
+mod laboratory;
 mod numbers;
 mod proposals;
 mod record;
@@ -22,6 +24,7 @@ pub use composed::jilghvani_write_return;
 pub use composed::jilghvani_write_settle;
 pub use conversions::jilghvani_adm_to_asm;
 pub use conversions::jilghvani_asm_to_adm;
+pub use laboratory::jilghvani_sheet;
 pub use numbers::jilghvani_feed;
 pub use numbers::jilghvani_fresh;
 pub use numbers::jilghvani_receive;

@@ -1,19 +1,23 @@
--- The balances over any list of calls and previews. Assumes nothing.
+-- The balances over any list of calls, previews and sheets. Assumes nothing.
 --
 --   Quantity      what a balance is about: a total of each vector, and what a call lets go of it
 --   Kept          one call keeps a quantity
 --   done-kept     each call does where no refusal applies
 --   step-kept     any call does
---   over          so does every list of calls and previews
+--   sheet-kept    a sheet does
+--   over          so does every list of them and of previews
 --   cod-quantity, ..   the four quantities
 --   balance            BalanceLaw
 --   recycle-holds      RecycleLaw
 --   previews-skipped   SkipLaw
-use mathlib.Core.Bool.{cond}
+--   sheets-as-calls    SheetLaw
+use mathlib.Core.Bool.{Bool, true, false, cond}
 use mathlib.Core.List.{List, [], _∷_}
-use mathlib.Core.Path.{_≡_, refl, ap}
+use mathlib.Core.Path.{_≡_, refl, ap, _∙_}
 use Prim.Native.Nat.{ℕ, _+_, _≤_}
+use native.Mathlib.Nat.{zero-add}
 use native.Mathlib.Omega.{arith}
+use lib.Dec.{eqb}
 use borrow.Author.Tests.{ne-eqb}
 use Rattle.vectors.specs.declared.figures.Figures.{Figures}
 use Rattle.vectors.specs.Figures.{Permitted}
@@ -34,12 +38,16 @@ use Rattle.plant.specs.declared.answer.Outcome.{Outcome}
 use Rattle.plant.specs.declared.answer.Told.{Told}
 use Rattle.plant.specs.Record.{noColumns, freshPlant, thousandths}
 use Rattle.plant.specs.Answer.{nothing, told, refused, unless, first}
-use Rattle.plant.specs.Calls.{receive, feed, settle, giveBack, release, recycle, ruleBy, stepBy, step, previewOf, recycling}
+use Rattle.plant.specs.Calls.{receive, feed, settle, giveBack, release, recycle, ruleBy, stepBy, step, previewOf}
+use Rattle.plant.specs.Calls.{receiving, recycling}
 use Rattle.plant.proofs.Laws.Record.{thousandths-le}
 use Rattle.plant.proofs.Laws.Calls.{settle-passed}
 use Rattle.plant.proofs.Laws.Decision.{decide-case, first-passed, unless-passed}
-use Rattle.balances.specs.Balance.{Entry, calls, previews, after, sumOver, withoutPreviews}
-use Rattle.balances.specs.Balance.{counts, ifAccepted, receivedBy, releasedBy, gasBy, BalanceLaw, RecycleLaw, SkipLaw}
+use Rattle.sheets.specs.declared.finding.Finding.{Finding}
+use Rattle.sheets.specs.Sheet.{refusalIn, countsOf, sheetStep}
+use Rattle.sheets.proofs.Laws.Sheet.{sheet-plant}
+use Rattle.balances.specs.Balance.{Entry, calls, previews, sheets, after, sheetAdds, sumOver, withoutPreviews, sheetsAsCalls}
+use Rattle.balances.specs.Balance.{counts, ifAccepted, receivedBy, releasedBy, gasBy, BalanceLaw, RecycleLaw, SkipLaw, SheetLaw}
 
 -- ---- quantities
 
@@ -110,10 +118,27 @@ module _ (f : Figures) (q : Quantity f) where
       (λ e. omega (arith, done-kept p (call.Recycle k) noColumns noColumns e, q .silent 0))
       (λ n. refl)
 
-  -- ---- a list of calls and previews
+  -- ---- a list of calls, previews and sheets
 
   abbrev let-go : Request → Outcome → ℕ
   let-go r o = q .lost (told (o .answer)) (gasBy r o)
+
+  -- a sheet is the receive of its counts, or nothing
+  sheet-kept : (p : Plant) (s : List Finding)
+      → inTanks p + sheetAdds (receivedBy (q .asm1)) f p s
+      ≡ inTanks (sheetStep f p s .plant) + sheetAdds (releasedBy (q .asm1)) f p s + sheetAdds let-go f p s
+  sheet-kept p s = rw (sheet-plant f p s) (go (eqb (refusalIn s) 0))
+    where
+      r : Request
+      r = receiving (countsOf s)
+
+      o : Outcome
+      o = step f p r
+
+      go : (b : Bool) → inTanks p + cond b (receivedBy (q .asm1) r o) 0
+          ≡ inTanks (cond b (o .plant) p) + cond b (releasedBy (q .asm1) r o) 0 + cond b (let-go r o) 0
+      go true = step-kept p (r .call) (r .sludge) (r .digester)
+      go false = omega arith
 
   over : (p : Plant) (es : List Entry)
       → inTanks p + sumOver (receivedBy (q .asm1)) f p es
@@ -122,6 +147,7 @@ module _ (f : Figures) (q : Quantity f) where
   over p [] = omega arith
   over p (calls r ∷ es) = omega (arith, step-kept p (r .call) (r .sludge) (r .digester), over (step f p r .plant) es)
   over p (previews r ∷ es) = omega (arith, over p es)
+  over p (sheets s ∷ es) = omega (arith, sheet-kept p s, over (sheetStep f p s .plant) es)
 
   from-fresh : (es : List Entry)
       → sumOver (receivedBy (q .asm1)) f freshPlant es
@@ -201,11 +227,28 @@ unfolding codLost
 cod-sums f p [] = refl
 cod-sums f p (calls r ∷ es) = omega (arith, cod-sums f (step f p r .plant) es)
 cod-sums f p (previews r ∷ es) = cod-sums f (previewOf f p r .plant) es
+cod-sums f p (sheets s ∷ es) = omega (arith, adds (eqb (refusalIn s) 0), cod-sums f (sheetStep f p s .plant) es)
+  where
+    r : Request
+    r = receiving (countsOf s)
+
+    o : Outcome
+    o = step f p r
+
+    adds : (b : Bool) → cond b (codLost (told (o .answer)) (gasBy r o)) 0
+        ≡ cond b (told (o .answer) .burnt) 0 + cond b (gasBy r o) 0 + cond b (told (o .answer) .stripped) 0
+    adds true = refl
+    adds false = refl
 
 no-sum : (f : Figures) (p : Plant) (es : List Entry) → sumOver (λ r o. 0) f p es ≡ 0
 no-sum f p [] = refl
 no-sum f p (calls r ∷ es) = omega (arith, no-sum f (step f p r .plant) es)
 no-sum f p (previews r ∷ es) = no-sum f (previewOf f p r .plant) es
+no-sum f p (sheets s ∷ es) = omega (arith, adds (eqb (refusalIn s) 0), no-sum f (sheetStep f p s .plant) es)
+  where
+    adds : (b : Bool) → _≡_ {A = ℕ} (cond b 0 0) 0
+    adds true = refl
+    adds false = refl
 
 pub balance : BalanceLaw
 unfolding cod-quantity tkn-quantity oxygen-quantity nitrate-quantity
@@ -234,6 +277,7 @@ unfolding previewOf
 after-skipped f p [] = refl
 after-skipped f p (calls r ∷ es) = after-skipped f (step f p r .plant) es
 after-skipped f p (previews r ∷ es) = after-skipped f p es
+after-skipped f p (sheets s ∷ es) = after-skipped f (sheetStep f p s .plant) es
 
 sums-skipped : (of : Request → Outcome → ℕ) (f : Figures) (p : Plant) (es : List Entry)
     → sumOver of f p es ≡ sumOver of f p (withoutPreviews es)
@@ -241,6 +285,40 @@ unfolding previewOf
 sums-skipped of f p [] = refl
 sums-skipped of f p (calls r ∷ es) = ap (λ n. of r (step f p r) + n) (sums-skipped of f (step f p r .plant) es)
 sums-skipped of f p (previews r ∷ es) = sums-skipped of f p es
+sums-skipped of f p (sheets s ∷ es) = ap (λ n. sheetAdds of f p s + n) (sums-skipped of f (sheetStep f p s .plant) es)
 
 pub previews-skipped : SkipLaw
 previews-skipped f p es = record { plant = after-skipped f p es; sums = λ of. sums-skipped of f p es }
+
+-- ---- sheets
+
+after-as-calls : (f : Figures) (p : Plant) (es : List Entry) → after f p es ≡ after f p (sheetsAsCalls es)
+after-as-calls f p [] = refl
+after-as-calls f p (calls r ∷ es) = after-as-calls f (step f p r .plant) es
+after-as-calls f p (previews r ∷ es) = after-as-calls f (previewOf f p r .plant) es
+after-as-calls f p (sheets s ∷ es) = rw (sheet-plant f p s) (go (eqb (refusalIn s) 0) (λ q. after-as-calls f q es))
+  where
+    go : (b : Bool) → ((q : Plant) → after f q es ≡ after f q (sheetsAsCalls es))
+        → after f (cond b (step f p (receiving (countsOf s)) .plant) p) es
+        ≡ after f p (cond b (calls (receiving (countsOf s)) ∷ sheetsAsCalls es) (sheetsAsCalls es))
+    go true h = h (step f p (receiving (countsOf s)) .plant)
+    go false h = h p
+
+sums-as-calls : (of : Request → Outcome → ℕ) (f : Figures) (p : Plant) (es : List Entry)
+    → sumOver of f p es ≡ sumOver of f p (sheetsAsCalls es)
+sums-as-calls of f p [] = refl
+sums-as-calls of f p (calls r ∷ es) = ap (λ n. of r (step f p r) + n) (sums-as-calls of f (step f p r .plant) es)
+sums-as-calls of f p (previews r ∷ es) = sums-as-calls of f (previewOf f p r .plant) es
+sums-as-calls of f p (sheets s ∷ es) = rw (sheet-plant f p s) (go (eqb (refusalIn s) 0) (λ q. sums-as-calls of f q es))
+  where
+    r : Request
+    r = receiving (countsOf s)
+
+    go : (b : Bool) → ((q : Plant) → sumOver of f q es ≡ sumOver of f q (sheetsAsCalls es))
+        → cond b (of r (step f p r)) 0 + sumOver of f (cond b (step f p r .plant) p) es
+        ≡ sumOver of f p (cond b (calls r ∷ sheetsAsCalls es) (sheetsAsCalls es))
+    go true h = ap (λ n. of r (step f p r) + n) (h (step f p r .plant))
+    go false h = zero-add (sumOver of f p es) ∙ h p
+
+pub sheets-as-calls : SheetLaw
+sheets-as-calls f p es = record { plant = after-as-calls f p es; sums = λ of. sums-as-calls of f p es }

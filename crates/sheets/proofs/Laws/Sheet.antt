@@ -7,13 +7,15 @@
 --   counts-within, limits-within       CountsWithinLaw, and the same of the limits
 --   unseen-added, received-.., sheet-received, sheet-turned   the steps of the call
 --   sheet-tests, sheet-refused, sheet-adds   SheetTestsLaw, SheetRefusedLaw, SheetAddsLaw
-use mathlib.Core.Bool.{true}
+--   sheet-plant                        the record behind a sheet
+use mathlib.Core.Bool.{true, cond}
 use mathlib.Core.List.{List, [], _∷_, map}
 use mathlib.Core.Path.{_≡_, refl, sym, ap, _∙_, subst}
 use Prim.Native.Nat.{ℕ, zero, suc, _+_, _≤_, _<_, zero-le}
 use native.Mathlib.Nat.{zero-add, add-zero}
 use native.Mathlib.Numerals.{add-one}
 use native.Mathlib.Omega.{arith}
+use lib.Dec.{eqb}
 use lib.ListN.{length, getD, drop, set, length-map, drop-of-length-le}
 use lib.Seq.{drop-cons}
 use borrow.Author.Tests.{ne-eqb, le-leb}
@@ -29,7 +31,7 @@ use Rattle.plant.specs.Record.{noColumns, recordWithin}
 use Rattle.plant.specs.Answer.{told, unless, first}
 use Rattle.plant.specs.Calls.{receive, stepBy, step, receiving}
 use Rattle.plant.proofs.Laws.Calls.{exact}
-use Rattle.plant.proofs.Laws.Decision.{number-case, decide-case, first-number, first-sent}
+use Rattle.plant.proofs.Laws.Decision.{number-case, number-none, number-some, decide-case, first-number, first-sent}
 use Rattle.sheets.specs.declared.finding.Finding.{Finding}
 use Rattle.sheets.specs.declared.finding.Finding.the-variants.{Measured, BelowLimit, NotSampled}
 use Rattle.sheets.specs.declared.finding.Reading.{Reading}
@@ -138,8 +140,8 @@ module _ (s : List Finding) (n : length s ≡ 13) where
         let g : Reading → ℕ = λ r. r .missing in
         let k : Reading → ℕ = λ r. r .refusal in
         record {
-          counted = filled-more _ (l .counted) h (column (λ (r : Reading). r .count));
-          limited = filled-more _ (l .limited) h (column (λ (r : Reading). r .limit));
+          counted = filled-more 0 _ (l .counted) h (column (λ (r : Reading). r .count));
+          limited = filled-more 0 _ (l .limited) h (column (λ (r : Reading). r .limit));
           rest = omega (arith, sum-next (missings s) i (inside g), column g, l .rest);
           few = omega (arith, l .few, subst (λ (r : Reading). r .missing ≤ 1) (sym e) (missing-le _ _ (getD s i y)));
           passed = first-next (refusals s) i (inside k) (sym (column k) ∙ z) ∙ l .passed;
@@ -296,3 +298,15 @@ sheet-adds f p s =
     number-case P (refusalIn s) _ _
     (λ z. number-case P n _ _ (λ y h. receive-adds f p v y) (λ y h. absurd (y h)))
     (λ z h. absurd (z h))
+
+-- the record behind a sheet is that behind the receive of its counts, or the one handed in
+pub sheet-plant : (f : Figures) (p : Plant) (s : List Finding)
+    → sheetStep f p s .plant ≡ cond (eqb (refusalIn s) 0) (step f p (receiving (countsOf s)) .plant) p
+unfolding sheetStep
+sheet-plant f p s =
+    let o = step f p (receiving (countsOf s)) in
+    let q = cond (eqb (refusalIn s) 0) (o .plant) p in
+    let received = number-case (λ (r : SheetOutcome). r .plant ≡ o .plant) (told (o .answer) .number) _ _ (λ z. refl) (λ z. refl) in
+    number-case (λ (r : SheetOutcome). r .plant ≡ q) (refusalIn s) _ _
+    (λ z. received ∙ sym (number-none (refusalIn s) (o .plant) p z))
+    (λ z. sym (number-some (refusalIn s) (o .plant) p z))

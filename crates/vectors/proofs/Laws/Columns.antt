@@ -1,6 +1,6 @@
 -- Laws of vectors of columns: loops that rewrite one, ceilings, sums. Assumes nothing.
 --
---   Filled               a loop that replaces the columns of one vector by those of another, from the front
+--   Filled               a loop that replaces the elements of one list by those of another, from the front
 --   within-..            the ceiling test: at a column, one turn of a loop, its end, as inequalities; below-within from these
 --   columnsFrom          columns by their places, and digester-columns by their names
 --   added-..             the sum: its length, a column
@@ -21,43 +21,46 @@ use Rattle.vectors.specs.Columns.{digester, digesterColumns, within, Bel
 
 -- ---- a loop that fills
 
--- at the loop's head: l has the first i columns of t, and the others of d
-pub record Filled (t d l : List ℕ) (i : ℕ) : Type 0 where
+-- at the loop's head: l has the first i elements of t, and the others of d
+pub record Filled {A : Type 0} (t d l : List A) (i : ℕ) : Type 0 where
   pub is : l ≡ take i t ++ drop i d
   pub upto : i ≤ length d
   pub long : length l ≡ length d
   pub same : length t ≡ length d
 
-pub filled-none : (t d : List ℕ) → length t ≡ length d → Filled t d d 0
-filled-none t d e = record { is = refl; upto = zero-le; long = refl; same = e }
+-- z stands for an element past the end
+module _ {A : Type 0} where
+  pub filled-none : (t d : List A) → length t ≡ length d → Filled t d d 0
+  filled-none t d e = record { is = refl; upto = zero-le; long = refl; same = e }
 
--- the column at i is still that of d
-pub filled-at : {t d l : List ℕ} {i : ℕ} → Filled t d l i → i < length d → getD l i 0 ≡ getD d i 0
-filled-at {t} {d} {l} {i} f h =
-    let e : drop i (take i t ++ drop i d) ≡ drop i d = rw zero-add at (drop-paste d 0 t i zero-le (omega arith)) in
-    rw (f .is) (rw add-zero at (sym (getD-drop i (take i t ++ drop i d) 0 0) ∙ ap (λ (m : List ℕ). getD m 0 0) e ∙ getD-drop i d 0 0))
+  -- the element at i is still that of d
+  pub filled-at : (z : A) {t d l : List A} {i : ℕ} → Filled t d l i → i < length d → getD l i z ≡ getD d i z
+  filled-at z {t} {d} {l} {i} f h =
+      let e : drop i (take i t ++ drop i d) ≡ drop i d = rw zero-add at (drop-paste d 0 t i zero-le (omega arith)) in
+      rw (f .is) (rw add-zero at (sym (getD-drop i (take i t ++ drop i d) 0 z) ∙ ap (λ (m : List A). getD m 0 z) e ∙ getD-drop i d 0 z))
 
--- a store takes the loop one column on
-pub filled-more : {t d l : List ℕ} {i : ℕ} (x : ℕ) → Filled t d l i → i < length d → x ≡ getD t i 0 → Filled t d (set l i x) (i + 1)
-filled-more {t} {d} {l} {i} x f h e =
-    record {
-      is = rw (f .is, e, add-one) (simp zero-add at (paste-suc d 0 t i 0 (omega (arith, zero-add i)) (omega arith)));
-      upto = omega arith;
-      long = length-set l i x ∙ f .long;
-      same = f .same;
-    }
+  -- a store takes the loop one element on
+  pub filled-more : (z : A) {t d l : List A} {i : ℕ} (x : A) → Filled t d l i → i < length d → x ≡ getD t i z
+      → Filled t d (set l i x) (i + 1)
+  filled-more z {t} {d} {l} {i} x f h e =
+      record {
+        is = rw (f .is, e, add-one) (simp zero-add at (paste-suc d 0 t i z (omega (arith, zero-add i)) (omega arith)));
+        upto = omega arith;
+        long = length-set l i x ∙ f .long;
+        same = f .same;
+      }
 
--- at the end all are those of t
-pub filled-all : {t d l : List ℕ} {i : ℕ} → Filled t d l i → length d ≤ i → l ≡ t
-filled-all {t} {d} {l} {i} f h = f .is ∙ go t d i (f .same) h
-  where
-    go : (t d : List ℕ) (i : ℕ) → length t ≡ length d → length d ≤ i → take i t ++ drop i d ≡ t
-    go [] [] zero e h = refl
-    go [] [] (suc i) e h = refl
-    go [] (y ∷ d) i e h = absurd (omega arith)
-    go (x ∷ t) [] i e h = absurd (omega arith)
-    go (x ∷ t) (y ∷ d) zero e h = absurd (omega arith)
-    go (x ∷ t) (y ∷ d) (suc i) e h = ap (λ (l : List ℕ). x ∷ l) (go t d i (omega arith) (omega arith))
+  -- at the end all are those of t
+  pub filled-all : {t d l : List A} {i : ℕ} → Filled t d l i → length d ≤ i → l ≡ t
+  filled-all {t} {d} {l} {i} f h = f .is ∙ go t d i (f .same) h
+    where
+      go : (t d : List A) (i : ℕ) → length t ≡ length d → length d ≤ i → take i t ++ drop i d ≡ t
+      go [] [] zero e h = refl
+      go [] [] (suc i) e h = refl
+      go [] (y ∷ d) i e h = absurd (omega arith)
+      go (x ∷ t) [] i e h = absurd (omega arith)
+      go (x ∷ t) (y ∷ d) zero e h = absurd (omega arith)
+      go (x ∷ t) (y ∷ d) (suc i) e h = ap (λ (l : List A). x ∷ l) (go t d i (omega arith) (omega arith))
 
 -- ---- ceilings
 

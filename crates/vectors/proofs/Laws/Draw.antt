@@ -36,7 +36,7 @@ mapped-column f (x ∷ c) (suc i) h = mapped-column f c i (omega arith)
 
 -- one turn of a loop that puts a function at every column
 pub mapped-more : (f : ℕ → ℕ) {d l : List ℕ} {i : ℕ} → Filled (map f d) d l i → i < length d → Filled (map f d) d (set l i (f (getD l i 0))) (i + 1)
-mapped-more f {d} {l} {i} h lt = filled-more _ h lt (rw (filled-at h lt) (sym (mapped-column f d i lt)))
+mapped-more f {d} {l} {i} h lt = filled-more 0 _ h lt (rw (filled-at 0 h lt) (sym (mapped-column f d i lt)))
 
 pub within-drawn : (k : ℕ) → k ≤ 1000 → (cs v : List ℕ) → within cs v ≡ true → within cs (drawn k v) ≡ true
 unfolding within

@@ -30,7 +30,7 @@ shared-slice-read-dst : tie.Need-shared-slice-read-dst Inv-loop μ-loop
 shared-slice-read-dst c = search needs
 
 add-dst : tie.Need-add-dst Inv-loop μ-loop
-add-dst c = let l = c .before .before .before .loop in record { fits = rw (filled-at (l .inv) (search needs)) (c .before .before .before .before .pre .1 (l .i)) }
+add-dst c = let l = c .before .before .before .loop in record { fits = rw (filled-at 0 (l .inv) (search needs)) (c .before .before .before .before .pre .1 (l .i)) }
 
 mul-dst-2 : tie.Need-mul-dst-2 Inv-loop μ-loop
 mul-dst-2 c = search needs
@@ -48,7 +48,7 @@ loop-again : tie.Need-loop-again Inv-loop μ-loop
 loop-again c =
     let l = c .before .before .before .loop in
     let a = c .before .before .before .before .args in
-    filled-more _ (l .inv) (search needs) (rw (filled-at (l .inv) (search needs)) (sym (added-column (a .dst .now) (a .src .now) (l .i))))
+    filled-more 0 _ (l .inv) (search needs) (rw (filled-at 0 (l .inv) (search needs)) (sym (added-column (a .dst .now) (a .src .now) (l .i))))
 
 same-length : tie.Need-same-length Inv-loop μ-loop
 same-length c = search needs

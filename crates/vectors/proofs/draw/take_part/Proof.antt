@@ -24,7 +24,7 @@ slice-read-x : tie.Need-slice-read-x Inv-loop μ-loop
 slice-read-x c = search needs
 
 mul-v : tie.Need-mul-v Inv-loop μ-loop
-mul-v c = let l = c .before .before .loop in record { fits = rw (filled-at (l .inv) (search needs)) (c .before .before .before .pre (l .i)) }
+mul-v c = let l = c .before .before .loop in record { fits = rw (filled-at 0 (l .inv) (search needs)) (c .before .before .before .pre (l .i)) }
 
 mul-v-2 : tie.Need-mul-v-2 Inv-loop μ-loop
 mul-v-2 c = search needs
