@@ -21,7 +21,7 @@ fn answer_word() {
             return;
         }
         if check::same(&word[..n], b"--version") {
-            write_all(b"sludgeline 0.10.0\n");
+            write_all(b"sludgeline 0.11.0\n");
             return;
         }
     }

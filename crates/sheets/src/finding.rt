@@ -56,9 +56,10 @@ fn read_limit(v: f32, scale: u64, ceiling: u64) -> Reading
     ensures { λ r. ⌜ r ≡ readingOf scale ceiling (Finding.BelowLimit v) ⌝ }
 {
     let c = count_value(v, scale, ceiling);
+    let count = 0;
     Reading {
         refusal: c.refusal,
-        count: 0,
+        count,
         limit: c.count,
         missing: 0,
     }
