@@ -133,9 +133,9 @@ fn closing_of(old: [u64; 26], d: [u64; 26]) -> Closed
 fn with_closing(d: [u64; 26], sin: Ticks, co: Milligrams, cn: Ticks) -> [u64; 26]
     ensures { λ r. ⌜ r ≡ replaced d (sin .0) (co .0) (cn .0) ⌝ }
 {
-    let mut v = vectors::digester_of(d);
+    let mut v = columns::digester_of(d);
     v.sin = sin;
     v.co = co;
     v.cn = cn;
-    vectors::digester_array(v)
+    columns::digester_array(v)
 }

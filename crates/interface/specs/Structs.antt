@@ -7,11 +7,11 @@
 use mathlib.Core.Path.{_≡_}
 use Prim.Native.Nat.{ℕ, _≤_}
 use Rattle.vectors.specs.Columns.{codCeiling, tickCeiling, asm1Ceilings, asm1Columns, digesterCeilings, digesterColumns, Below}
-use Rattle.vectors.specs.Units.{asm1Counts, digesterCounts}
+use Rattle.columns.specs.Counts.{asm1Counts, digesterCounts}
 use Rattle.interface.specs.Feed.{Stage1, Stage2, Stage4, Stage5, Stages}
 use Rattle.interface.specs.Return.{Nitrogen}
-use Rattle.vectors.specs.declared.columns.Asm1.{Asm1}
-use Rattle.vectors.specs.declared.columns.Digester.{Digester}
+use Rattle.columns.specs.declared.columns.Asm1.{Asm1}
+use Rattle.columns.specs.declared.columns.Digester.{Digester}
 use Rattle.interface.specs.declared.returning.Nitrogen as inReturn
 use Rattle.interface.specs.declared.feed.Demand.{Demand}
 use Rattle.interface.specs.declared.feed.Left.{Left}

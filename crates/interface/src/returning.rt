@@ -3,17 +3,17 @@ ghost use mathlib.Core.Path.{_≡_};
 ghost use Prim.Native.Nat.{_+_, _*_, _≤_};
 ghost use Rattle.vectors.specs.Columns.{Below, digesterCeilings};
 ghost use Rattle.vectors.specs.Figures.{Permitted};
-ghost use Rattle.vectors.specs.Units.{asm1Counts, digesterCounts};
+ghost use Rattle.columns.specs.Counts.{asm1Counts, digesterCounts};
 ghost use Rattle.vectors.specs.Totals.{degraders};
 ghost use Rattle.interface.specs.Return.{soluble, particulate, nitrogenOf, taken, returnedVector, returnRefused, returnTaken, returnDigester, returnOf};
 ghost use Rattle.interface.specs.Structs.{LowDigester, nitrogenCounts};
-use vectors::Asm1;
-use vectors::Digester;
+use columns::Asm1;
+use columns::Digester;
+use columns::asm1_array;
+use columns::digester_of;
 use vectors::Figures;
 use vectors::Milligrams;
 use vectors::Ticks;
-use vectors::asm1_array;
-use vectors::digester_of;
 use vectors::nitrogen;
 
 // What a return conversion gives: refusal 0 with the vector and the COD stripped, or a refusal with zeros.

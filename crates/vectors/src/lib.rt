@@ -2,12 +2,10 @@
 //
 //   units      one tuple struct for each unit, with its sums and tests
 //   figures    the nine figures, with the house set
-//   columns    vectors by the names of their columns
 //   ceilings   ceilings of the columns, and sums of vectors
 //   draw       k thousandths of a vector
 //   totals     COD and TKN
 mod ceilings;
-mod columns;
 mod draw;
 mod figures;
 mod totals;
@@ -21,12 +19,6 @@ pub use ceilings::asm1_within;
 pub use ceilings::digester_sum;
 pub use ceilings::digester_sum_within;
 pub use ceilings::digester_within;
-pub use columns::Asm1;
-pub use columns::Digester;
-pub use columns::asm1_array;
-pub use columns::asm1_of;
-pub use columns::digester_array;
-pub use columns::digester_of;
 pub use draw::asm1_drawn;
 pub use draw::asm1_rest;
 pub use draw::digester_drawn;

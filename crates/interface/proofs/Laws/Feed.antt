@@ -20,9 +20,9 @@ use lib.Dec.{leb, ltb}
 use borrow.Author.Tests.{leb-true, leb-false, ltb-false}
 use Rattle.vectors.specs.declared.figures.Figures.{Figures}
 use Rattle.interface.specs.declared.feed.Fed.{Fed}
-use Rattle.vectors.specs.declared.columns.Asm1 as inAsm1
+use Rattle.columns.specs.declared.columns.Asm1 as inAsm1
 use Rattle.vectors.specs.Columns.{Asm1, asm1, asm1Columns, asm1Ceilings, Below}
-use Rattle.vectors.specs.Units.{asm1Counts}
+use Rattle.columns.specs.Counts.{asm1Counts}
 use Rattle.interface.specs.Structs.{Low}
 use Rattle.interface.specs.Feed.{NitrateRule, nitrateRule, ceil, warnOf, Stage1, Stage2, Stage4}
 use Rattle.interface.specs.Feed.{stage1, stage2, stage3, stage4, stage5, stages, feedRefused, feedTaken, feedAsm1, feedOf}

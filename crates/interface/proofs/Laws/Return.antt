@@ -15,9 +15,9 @@ use lib.Dec.{ltb}
 use borrow.Author.Tests.{ltb-false}
 use Rattle.vectors.specs.declared.figures.Figures.{Figures}
 use Rattle.interface.specs.declared.returning.Returned.{Returned}
-use Rattle.vectors.specs.declared.columns.Digester as inDigester
+use Rattle.columns.specs.declared.columns.Digester as inDigester
 use Rattle.vectors.specs.Columns.{Digester, digester, digesterColumns, digesterCeilings, Below}
-use Rattle.vectors.specs.Units.{digesterCounts}
+use Rattle.columns.specs.Counts.{digesterCounts}
 use Rattle.interface.specs.Structs.{LowDigester}
 use Rattle.interface.specs.Return.{Nitrogen, nitrogenOf, taken, returnShort, returnRefused, returnTaken, returnDigester, returnOf}
 use Rattle.interface.specs.Laws.{ReturnLaw}

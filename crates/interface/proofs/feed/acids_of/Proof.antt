@@ -1,5 +1,5 @@
 -- `interface::feed::acids_of` meets its contract. Assumes nothing.
-use Rattle.vectors.specs.Units.{asm1Counts}
+use Rattle.columns.specs.Counts.{asm1Counts}
 use Rattle.interface.proofs.Laws.Feed.{stage2-is}
 use native.Mathlib.Omega.{arith}
 use borrow.Author.Needs.{needs}

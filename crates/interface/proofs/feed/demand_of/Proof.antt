@@ -1,5 +1,5 @@
 -- `interface::feed::demand_of` meets its contract. Assumes nothing.
-use Rattle.vectors.specs.Units.{asm1Counts}
+use Rattle.columns.specs.Counts.{asm1Counts}
 use Rattle.interface.specs.Feed.{nitrateRule}
 use Rattle.interface.proofs.Laws.Feed.{stage1-is, stage1-covered-is, stage1-short-is}
 use native.Mathlib.Omega.{arith}

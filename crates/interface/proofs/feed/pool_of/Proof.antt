@@ -1,6 +1,6 @@
 -- `interface::feed::pool_of` meets its contract. Assumes nothing.
 use Prim.Native.Nat.{_+_, _≤_}
-use Rattle.vectors.specs.Units.{asm1Counts}
+use Rattle.columns.specs.Counts.{asm1Counts}
 use Rattle.interface.proofs.Laws.Feed.{stage3-is}
 use native.Mathlib.Omega.{arith}
 use borrow.Author.Needs.{needs}

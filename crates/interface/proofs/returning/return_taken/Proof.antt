@@ -2,7 +2,8 @@
 use native.Mathlib.Omega.{arith}
 use mathlib.Core.Path.{ap, _∙_}
 use Rattle.vectors.specs.Columns.{asm1Columns}
-use Rattle.vectors.specs.Units.{milligrams, digesterCounts}
+use Rattle.vectors.specs.Units.{milligrams}
+use Rattle.columns.specs.Counts.{digesterCounts}
 use Rattle.interface.specs.Return.{returnedVector}
 use borrow.Author.Needs.{needs}
 use Rattle.interface.proofs.returning.return_taken.Statement.{statement}

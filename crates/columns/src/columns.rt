@@ -1,10 +1,10 @@
 // Vectors by the names of their columns, each column in its unit, and the arrays that hold them in document 01's order.
 ghost use mathlib.Core.Path.{_≡_};
 ghost use Rattle.vectors.specs.Columns.{asm1, digester, asm1Columns, digesterColumns};
-ghost use Rattle.vectors.specs.Units.{asm1Counts, digesterCounts};
-use crate::units::Milligrams;
-use crate::units::Millimoles;
-use crate::units::Ticks;
+ghost use Rattle.columns.specs.Counts.{asm1Counts, digesterCounts};
+use vectors::Milligrams;
+use vectors::Millimoles;
+use vectors::Ticks;
 
 pub struct Asm1 {
     pub si: Milligrams,
