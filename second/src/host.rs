@@ -42,6 +42,13 @@ unsafe extern "C" {
     pub safe fn jilghvani_fresh(record: &mut Record);
     /// The same as `numbers::receive`.
     pub safe fn jilghvani_receive(record: &mut Record, v: &Asm1) -> u64;
+    /// The same as `numbers::sheet`.
+    pub safe fn jilghvani_sheet(
+        record: &mut Record,
+        kinds: &[u8; 13],
+        values: &[f32; 13],
+        told: &mut [u64; 4],
+    ) -> u64;
     /// The same as `numbers::feed`.
     pub safe fn jilghvani_feed(record: &mut Record, k: u64, told: &mut [u64; 4]) -> u64;
     /// The same as `numbers::settle`.

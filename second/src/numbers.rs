@@ -6,6 +6,7 @@
 
 use crate::convert;
 use crate::plant::{Plant, Record, Refusal};
+use crate::sheets::Sheet;
 use crate::tables::{Asm1, Digester};
 
 /// The refusal's number, with what an accepted call tells in `told`, or zeros.
@@ -34,6 +35,18 @@ pub fn fresh(record: &mut Record) {
 /// Receives a vector.
 pub fn receive(record: &mut Record, v: &Asm1) -> u64 {
     on_record(record, &mut [], |plant| plant.receive(v).map(|()| []))
+}
+
+/// Receives a sheet; tells the unseen milligrams, ticks and millimoles, and the number of entries
+/// that were not sampled.
+pub fn sheet(
+    record: &mut Record,
+    kinds: &[u8; 13],
+    values: &[f32; 13],
+    told: &mut [u64; 4],
+) -> u64 {
+    let sheet = Sheet { kinds: *kinds, values: *values };
+    on_record(record, told, |plant| plant.sheet(&sheet).map(|unseen| unseen.numbers()))
 }
 
 /// Feeds k thousandths; tells burnt, oxygen, nitrate and warn.

@@ -4,7 +4,7 @@
 use crate::convert::{self, FeedTold};
 use crate::tables::*;
 
-/// Why a call is sent away; the value is document 01's number.
+/// Why a call is sent away; the value is its number in document 01, or in E6 of document 02.
 #[derive(Clone, Copy, Debug, PartialEq, Eq)]
 #[repr(u8)]
 pub enum Refusal {
@@ -20,6 +20,8 @@ pub enum Refusal {
     DestinationAboveCeiling = 10,
     NoForm = 11,
     BufferShort = 12,
+    NoAmount = 13,
+    CountAboveCeiling = 14,
 }
 
 /// One of the six calls, with the numbers and the vector it is handed.

@@ -7,6 +7,8 @@
 //! - `order`: lines whose fields stand in another order than their columns;
 //! - `previews`: lines as previews, or nearly so;
 //! - `writing`: calls to be written as lines, and the buffers lent for them;
+//! - `sheets`: laboratory sheets, and sludge tanks that they just fit or pass;
+//! - `table`: the sheets of `exact_sheets.py` with their answers;
 //! - here: a call written as a line, and the choice of the next record, line, call and
 //!   vector.
 
@@ -16,6 +18,8 @@ pub mod edges;
 pub mod order;
 pub mod previews;
 pub mod proposals;
+pub mod sheets;
+pub mod table;
 pub mod writing;
 
 use crate::plant::{Call, Plant};

@@ -39,6 +39,12 @@ impl<T: Copy + PartialEq + Debug> Guarded<T> {
         black_box(&self.all)
     }
 
+    /// The same run with each element turned into another, those of the guards too.
+    pub fn map<U>(&self, turn: impl Fn(T) -> U) -> Guarded<U> {
+        let all = self.all().iter().map(|&element| turn(element)).collect();
+        Guarded { all, length: self.length }
+    }
+
     /// Compares this run, the second implementation's, with what the library left.
     pub fn compare(&self, what: &str, found: &Self) -> Result<(), Difference> {
         let (expected, found) = (self.all(), found.all());
@@ -67,4 +73,10 @@ pub fn byte_pattern(salt: u64) -> impl Fn(usize) -> u8 {
 /// A pattern of numbers, all of them above every ceiling.
 pub fn number_pattern(salt: u64) -> impl Fn(usize) -> u64 {
     move |place| !(place as u64).wrapping_mul(0x9e37).wrapping_add(salt & 0xffff)
+}
+
+/// A pattern of floats, none of them a number.
+pub fn float_pattern(salt: u64) -> impl Fn(usize) -> f32 {
+    let bits = number_pattern(salt);
+    move |place| f32::from_bits(bits(place) as u32)
 }

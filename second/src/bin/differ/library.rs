@@ -1,10 +1,10 @@
 //! Lists of calls through the C library: lines and held lines here, with everything
-//! around record, line and buffer guarded; calls by numbers in `numbers`, and calls
-//! written as lines in `writing`.
+//! around record, line and buffer guarded; calls by numbers in `numbers`, laboratory
+//! sheets in `sheets`, and calls written as lines in `writing`.
 
 use crate::guarded::{byte_pattern, number_pattern, Guarded};
 use crate::tally::{kind_of, refusal_of, Tally};
-use crate::{numbers, shown, writing, Difference, Options};
+use crate::{numbers, sheets, shown, writing, Difference, Options};
 use second::balances::Balances;
 use second::plant::Plant;
 use second::random::Random;
@@ -137,10 +137,11 @@ fn one_list(random: Random, tally: &mut Tally) -> Result<(), Difference> {
             list.check()?;
             list = List::on(trial.record());
         }
-        match trial.random.below(22) {
+        match trial.random.below(24) {
             0 => held(&mut trial.random, &list.plant, tally)?,
             1..=11 => numbers::one_call(&mut trial, &mut list, tally)?,
             12 | 13 => written(&mut trial.random, &list.plant, tally)?,
+            14 | 15 => sheets::one_call(&mut trial, &mut list, tally)?,
             _ => {
                 let next = trial.line(&list.plant);
                 line(&mut trial.random, &mut list, &next, tally)?;
@@ -150,8 +151,10 @@ fn one_list(random: Random, tally: &mut Tally) -> Result<(), Difference> {
     list.check()
 }
 
-/// Runs as many lists of calls through the library as there are sessions.
+/// Sends the table's sheets through the library, and runs as many lists of calls through it as
+/// there are sessions.
 pub fn run(options: &Options, tally: &mut Tally) -> Result<(), Difference> {
+    sheets::table(options, tally)?;
     for number in 0..options.sessions {
         one_list(Random::nth(options.seed, 2 * number + 1), tally)
             .map_err(|difference| format!("list {number}\n{difference}"))?;

@@ -2,10 +2,12 @@
 //! against the exported C library, byte for byte.
 //!
 //!     differ [--seed N] [--sessions N] [--program PATH] [--only program|library]
+//!            [--sheets PATH]
 //!
 //! - `program`: sessions through the program;
 //! - `library`: lists of calls through the library, their lines and held lines;
 //! - `numbers`: the calls by numbers in these lists;
+//! - `sheets`: the laboratory sheets in them, and those of a table;
 //! - `writing`: the calls that are written as lines in them;
 //! - `guarded`: what is lent to the library, between guards;
 //! - `tally`: how many answers of each kind were compared;
@@ -15,13 +17,14 @@ mod guarded;
 mod library;
 mod numbers;
 mod program;
+mod sheets;
 mod tally;
 mod writing;
 
 use std::path::PathBuf;
 use std::process::ExitCode;
 use std::time::Instant;
-use tally::Tally;
+use tally::{Tally, LAST_REFUSAL};
 
 /// The first difference, in words.
 type Difference = String;
@@ -33,6 +36,8 @@ struct Options {
     program: PathBuf,
     through_program: bool,
     through_library: bool,
+    /// The table of sheets, where it is another one than the one kept here.
+    sheets: Option<PathBuf>,
 }
 
 /// Reads the options; their defaults are a fixed seed and 3000 sessions.
@@ -43,6 +48,7 @@ fn options() -> Result<Options, String> {
         program: PathBuf::from(concat!(env!("CARGO_MANIFEST_DIR"), "/../target/bin/sludgeline")),
         through_program: true,
         through_library: true,
+        sheets: None,
     };
     let mut words = std::env::args().skip(1);
     while let Some(word) = words.next() {
@@ -52,6 +58,7 @@ fn options() -> Result<Options, String> {
             "--seed" => options.seed = number()?,
             "--sessions" => options.sessions = number()?,
             "--program" => options.program = PathBuf::from(&value),
+            "--sheets" => options.sheets = Some(PathBuf::from(&value)),
             "--only" if value == "program" => options.through_library = false,
             "--only" if value == "library" => options.through_program = false,
             _ => return Err(format!("{word} {value}: unknown")),
@@ -96,7 +103,7 @@ fn run(options: &Options) -> Result<(), Difference> {
     if options.through_program && options.through_library {
         all.print("together");
     }
-    match all.count(0..=12) {
+    match all.count(0..=LAST_REFUSAL) {
         0 => Err("nothing was compared".into()),
         _ => Ok(()),
     }

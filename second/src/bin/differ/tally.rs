@@ -8,9 +8,10 @@ use std::ops::RangeInclusive;
 
 /// The kinds of answers: lines by the call they ask or preview, or where they are no forms, apart
 /// those that are none for the order of their fields alone and previews inside previews; the held
-/// line; the functions that are called by numbers; a gap that is told stands by where it is; and
-/// the functions that write a call's line, below each the same for its preview.
-const KINDS: [&str; 44] = [
+/// line; the functions that are called by numbers; sheets that are made for their record and those
+/// of the table stand below the others; a gap that is told stands by where it is; and the functions
+/// that write a call's line, below each the same for its preview.
+const KINDS: [&str; 47] = [
     "receive",
     "feed",
     "settle",
@@ -29,6 +30,9 @@ const KINDS: [&str; 44] = [
     "held",
     "jilghvani_fresh",
     "jilghvani_receive",
+    "jilghvani_sheet",
+    "  sheet at the ceilings",
+    "  sheet of the table",
     "jilghvani_feed",
     "jilghvani_settle",
     "jilghvani_return",
@@ -109,13 +113,19 @@ pub fn refusal_of(answer: &[u8]) -> usize {
     }
 }
 
-/// How many answers of each kind had each outcome; outcome 0 is accepted.
-pub struct Tally([[u64; 13]; KINDS.len()]);
+/// The greatest number of a refusal.
+pub const LAST_REFUSAL: usize = 14;
+
+/// How often each outcome was met; outcome 0 is accepted.
+type Outcomes = [u64; LAST_REFUSAL + 1];
+
+/// How many answers of each kind had each outcome.
+pub struct Tally([Outcomes; KINDS.len()]);
 
 impl Default for Tally {
     /// Nothing counted.
     fn default() -> Tally {
-        Tally([[0; 13]; KINDS.len()])
+        Tally([Outcomes::default(); KINDS.len()])
     }
 }
 
@@ -142,10 +152,10 @@ impl Tally {
 
     /// Prints the sums and a table: a row for each kind, a column for each outcome.
     pub fn print(&self, title: &str) {
-        let (accepted, refused) = (self.count(0..=0), self.count(1..=12));
+        let (accepted, refused) = (self.count(0..=0), self.count(1..=LAST_REFUSAL));
         let total = accepted + refused;
         println!("{title}: {total} answers compared, {accepted} accepted, {refused} refused");
-        let numbers: String = (1..=12).map(|number| format!("{number:>8}")).collect();
+        let numbers: String = (1..=LAST_REFUSAL).map(|number| format!("{number:>8}")).collect();
         println!("  {:<24}{:>9}{numbers}   by refusal", "", "accepted");
         for (name, outcomes) in KINDS.iter().zip(&self.0) {
             if outcomes.iter().any(|&count| count > 0) {
@@ -157,7 +167,7 @@ impl Tally {
 }
 
 /// Prints a name and how often each outcome was met.
-fn print_row(name: &str, outcomes: &[u64; 13]) {
+fn print_row(name: &str, outcomes: &Outcomes) {
     let counts: String = outcomes[1..].iter().map(|count| format!("{count:>8}")).collect();
     println!("  {name:<24}{:>9}{counts}", outcomes[0]);
 }
