@@ -54,8 +54,7 @@ static void hand_over(uint64_t record[JILGHVANI_COLUMNS], const char *name,
     printf("\n");
 }
 
-/* Bits that no C constant gives: a quiet and a signalling NaN, with either sign,
- * and the smallest number above zero. */
+/* Hands over a sheet whose ss has these bits, which may be a NaN's of any kind. */
 static void hand_over_bits(uint64_t record[JILGHVANI_COLUMNS], const char *name, uint32_t bits)
 {
     static const uint8_t kinds[JILGHVANI_ASM1] = {0};
