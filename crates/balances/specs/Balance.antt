@@ -42,7 +42,7 @@ use Rattle.plant.specs.declared.answer.Outcome.{Outcome}
 use Rattle.plant.specs.Record.{freshPlant}
 use Rattle.plant.specs.Answer.{told}
 use Rattle.plant.specs.Calls.{step, previewOf, receiving, recycling}
-use Rattle.plant.specs.Held.{codIn, tknIn, oxygenIn, nitrateIn}
+use Rattle.plant.specs.Tanks.{codIn, tknIn, oxygenIn, nitrateIn}
 use Rattle.sheets.specs.declared.finding.Finding.{Finding}
 use Rattle.sheets.specs.Sheet.{refusalIn, countsOf, sheetStep}
 

@@ -24,9 +24,9 @@ use Rattle.interface.specs.Whole.{asmToAdm, admToAsm}
 use Rattle.plant.specs.Answer.{told}
 use Rattle.plant.specs.declared.answer.Outcome.{Outcome}
 use Rattle.plant.specs.declared.answer.Request.{Request}
-use Rattle.plant.specs.declared.holding.HeldTotals.{HeldTotals}
 use Rattle.plant.specs.Calls.{step}
-use Rattle.plant.specs.Held.{heldOf}
+use Rattle.holding.specs.declared.holding.HeldTotals.{HeldTotals}
+use Rattle.holding.specs.Held.{heldOf}
 use Rattle.sheets.specs.declared.finding.Finding.{Finding}
 use Rattle.sheets.specs.declared.call.Unseen.{Unseen}
 use Rattle.sheets.specs.Sheet.{sheetStep}

@@ -91,7 +91,7 @@ pub extern "C" fn jilghvani_totals(columns: &[u64; 52], told: &mut [u64; 4]) -> 
     ensures { λ r. ⌜ TotalsCalled house (now (columns .entry)) r (now (told .exit)) ⌝ }
 {
     let p = plant_at(columns);
-    let h = plant::held(p);
+    let h = holding::held(p);
     *told = [h.cod.0, h.tkn.0, h.oxygen.0, h.nitrate.0];
     h.refusal
 }

@@ -27,7 +27,7 @@ use Rattle.lines.specs.declared.asking.LineOutcome.{LineOutcome}
 use Rattle.reading.specs.Line.{readLine}
 use Rattle.writing.specs.Buffer.{Answered}
 use Rattle.writing.specs.Answer.{answerText, heldText, fitting}
-use Rattle.plant.specs.Held.{heldOf}
+use Rattle.holding.specs.Held.{heldOf}
 use Rattle.lines.specs.declared.asking.HeldOutcome.{HeldOutcome}
 
 abbrev pub requestOf : Call → Line → Request

@@ -30,8 +30,8 @@ use Rattle.plant.specs.declared.record.Plant.{Plant}
 use Rattle.plant.specs.declared.answer.Outcome.{Outcome}
 use Rattle.plant.specs.Record.{freshPlant}
 use Rattle.plant.specs.Answer.{refused}
-use Rattle.plant.specs.declared.holding.HeldTotals.{HeldTotals}
-use Rattle.plant.specs.Held.{heldOf}
+use Rattle.holding.specs.declared.holding.HeldTotals.{HeldTotals}
+use Rattle.holding.specs.Held.{heldOf}
 use Rattle.balances.specs.Balance.{Entry, entry, received, released, burnt, gas, stripped, oxygenReduced, nitrateReduced}
 use Rattle.reading.specs.declared.form.Form.{Form}
 use Rattle.reading.specs.declared.form.Form.the-variants.{Asked, NotAForm}

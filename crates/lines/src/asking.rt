@@ -2,15 +2,15 @@
 ghost use mathlib.Core.Path.{_≡_};
 ghost use Rattle.vectors.specs.Figures.{house};
 ghost use Rattle.lines.specs.Asking.{formOutcome, LineAnswered, HeldAnswered};
+use holding::held;
 use plant::Outcome;
 use plant::Plant;
 use plant::Request;
-use plant::answer_entry;
-use plant::held;
 use plant::refusal;
 use reading::Form;
 use reading::Line;
 use reading::read_line;
+use requests::answer_entry;
 use writing::write_answer;
 use writing::write_held;
 

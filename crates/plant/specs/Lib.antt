@@ -1,4 +1,4 @@
 pub mod Record
 pub mod Answer
 pub mod Calls
-pub mod Held
+pub mod Tanks

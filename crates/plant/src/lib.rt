@@ -8,12 +8,8 @@
 //   returning  digester to reject
 //   releasing  reject handed out
 //   recycling  reject back into the sludge tank
-//   calls      any of the six, by a request, and a preview of it
-//   holding    what is in the tanks
 mod answer;
-mod calls;
 mod feeding;
-mod holding;
 mod receiving;
 mod record;
 mod recycling;
@@ -29,12 +25,7 @@ pub use answer::Told;
 pub use answer::refusal;
 pub use answer::refusal_of;
 pub use answer::told_of;
-pub use calls::answer_entry;
-pub use calls::answer_request;
-pub use calls::preview;
 pub use feeding::feed;
-pub use holding::HeldTotals;
-pub use holding::held;
 pub use receiving::receive;
 pub use record::Plant;
 pub use record::fresh;

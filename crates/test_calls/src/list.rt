@@ -65,9 +65,9 @@ fn one_call(run: Run, x: u64, i: u64) -> Run {
 // A call behind its preview, and what it adds to the sums; the preview adds nothing.
 pub fn called(run: Run, r: Request) -> Run {
     let p = run.plant;
-    let seen = plant::preview(p, r);
+    let seen = requests::preview(p, r);
     let kept = seen.plant;
-    let o = plant::answer_request(kept, r);
+    let o = requests::answer_request(kept, r);
     let a = o.answer;
     let v = o.vector;
     let after = o.plant;
@@ -219,7 +219,7 @@ pub fn report(run: Run) {
     test_show::number(b"accepted ", run.accepted);
     test_show::text(b"\n");
     let p = run.plant;
-    let h = plant::held(p);
+    let h = holding::held(p);
     line(b"COD", run.received.cod, h.cod.0, run.gone.cod);
     line(b"TKN", run.received.tkn, h.tkn.0, run.gone.tkn);
     line(b"oxygen", run.received.oxygen, h.oxygen.0, run.gone.oxygen);

@@ -138,8 +138,8 @@ fn example(row: [u64; 12]) {
     let two = with_column(one, row[3], row[4], row[5]);
     let r = request(row);
     test_show::text(b"preview ");
-    shown(two, r, plant::preview(two, r));
-    shown(two, r, plant::answer_request(two, r));
+    shown(two, r, requests::preview(two, r));
+    shown(two, r, requests::answer_request(two, r));
 }
 
 // Writes a call with its answer, and whether the record is the one handed in.

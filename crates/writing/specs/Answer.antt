@@ -14,7 +14,7 @@ use lib.Dec.{ltb, eqb}
 use lib.ListN.{getD}
 use Rattle.plant.specs.declared.answer.Answer.{Answer}
 use Rattle.plant.specs.declared.answer.Answer.the-variants.{Refused, Received, Fed, Settled, Returned, Released, Recycled}
-use Rattle.plant.specs.declared.holding.HeldTotals.{HeldTotals}
+use Rattle.holding.specs.declared.holding.HeldTotals.{HeldTotals}
 use Rattle.reading.specs.declared.names.Vector.the-variants.{Sludge}
 use Rattle.reading.specs.Text.{ascii, oneLine}
 use Rattle.reading.specs.Number.{decimal}

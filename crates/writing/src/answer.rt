@@ -10,8 +10,8 @@ use crate::put::filled_part;
 use crate::put::put_bytes;
 use crate::put::put_columns;
 use crate::put::put_labelled;
+use holding::HeldTotals;
 use plant::Answer;
-use plant::HeldTotals;
 
 // Writes an answer, with the vector of a release, and tells how many bytes it has; a buffer under 512 bytes is left as it is.
 pub fn write_answer(buf: &mut [u8], a: Answer, v: [u64; 13]) -> usize

@@ -11,9 +11,10 @@ use Rattle.vectors.specs.declared.figures.Figures.{Figures}
 use Rattle.plant.specs.declared.record.Plant.{Plant}
 use Rattle.plant.specs.Record.{freshPlant, recordWithin}
 use Rattle.plant.specs.Calls.{step, previewOf, receiving}
-use Rattle.plant.specs.Held.{codIn, tknIn, oxygenIn, nitrateIn, heldTotals, heldOf}
-use Rattle.plant.proofs.Laws.Record.{held-within}
+use Rattle.plant.specs.Tanks.{codIn, tknIn, oxygenIn, nitrateIn}
 use Rattle.plant.proofs.Laws.Within.{step-within, fresh-within}
+use Rattle.holding.specs.Held.{heldTotals, heldOf}
+use Rattle.holding.proofs.Laws.Held.{held-within}
 use Rattle.sheets.specs.declared.finding.Finding.{Finding}
 use Rattle.sheets.specs.Sheet.{refusalIn, countsOf, sheetStep}
 use Rattle.sheets.proofs.Laws.Sheet.{sheet-plant}

@@ -16,8 +16,8 @@ use Rattle.plant.specs.declared.answer.Outcome.{Outcome}
 use Rattle.plant.specs.Answer.{told}
 use Rattle.plant.specs.declared.answer.Request.{Request}
 use Rattle.plant.specs.Calls.{step}
-use Rattle.plant.specs.declared.holding.HeldTotals.{HeldTotals}
-use Rattle.plant.specs.Held.{heldOf}
+use Rattle.holding.specs.declared.holding.HeldTotals.{HeldTotals}
+use Rattle.holding.specs.Held.{heldOf}
 use Rattle.closing.specs.declared.Closed.{Closed}
 use Rattle.closing.specs.declared.Gaps.{Gaps}
 use Rattle.closing.specs.Closing.{closeOf, gapOf}

@@ -13,8 +13,8 @@ use Rattle.vectors.specs.declared.figures.Figures.{Figures}
 use Rattle.plant.specs.declared.record.Plant.{Plant}
 use Rattle.plant.specs.declared.answer.Outcome.{Outcome}
 use Rattle.plant.specs.Answer.{refused}
-use Rattle.plant.specs.Held.{heldOf}
-use Rattle.plant.specs.declared.holding.HeldTotals.{HeldTotals}
+use Rattle.holding.specs.declared.holding.HeldTotals.{HeldTotals}
+use Rattle.holding.specs.Held.{heldOf}
 use Rattle.reading.specs.declared.form.Line.{Line}
 use Rattle.reading.specs.Line.{readLine}
 use Rattle.writing.specs.Buffer.{Answered}

@@ -24,7 +24,7 @@ use Rattle.vectors.specs.declared.figures.Figures.{Figures}
 use Rattle.vectors.proofs.Laws.Columns.{both-true}
 use Rattle.plant.specs.declared.record.Plant.{Plant}
 use Rattle.plant.specs.declared.answer.Outcome.{Outcome}
-use Rattle.plant.specs.Held.{heldOf}
+use Rattle.holding.specs.Held.{heldOf}
 use Rattle.lines.specs.declared.asking.LineOutcome.{LineOutcome}
 use Rattle.lines.specs.declared.asking.HeldOutcome.{HeldOutcome}
 use Rattle.lines.specs.declared.blocks.Place.{Place}

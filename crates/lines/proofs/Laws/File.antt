@@ -8,9 +8,10 @@ use Rattle.vectors.specs.declared.figures.Figures.{Figures}
 use Rattle.vectors.specs.Figures.{Permitted}
 use Rattle.vectors.specs.Totals.{asm1Cod, asm1Tkn, asm1Oxygen, asm1Nitrate}
 use Rattle.plant.specs.declared.record.Plant.{Plant}
-use Rattle.plant.specs.declared.holding.HeldTotals.{HeldTotals}
 use Rattle.plant.specs.Record.{freshPlant}
-use Rattle.plant.specs.Held.{codIn, tknIn, oxygenIn, nitrateIn, heldTotals, heldOf}
+use Rattle.plant.specs.Tanks.{codIn, tknIn, oxygenIn, nitrateIn}
+use Rattle.holding.specs.declared.holding.HeldTotals.{HeldTotals}
+use Rattle.holding.specs.Held.{heldTotals, heldOf}
 use Rattle.balances.specs.Balance.{Entry, after, released, burnt, gas, stripped, oxygenReduced, nitrateReduced}
 use Rattle.balances.proofs.Laws.Balance.{balance}
 use Rattle.balances.proofs.Laws.Within.{held-after}

@@ -1,10 +1,8 @@
 -- Laws of the record's tests. Assumes nothing.
 --
 --   sludge-within, digester-within, reject-within   the tanks of a record that is within its ceilings
---   record-below                                    all three, as inequalities
 --   thousandths-le                                  a k that passes is at most 1000
 --   closes, closes-not                              COD that closes, tested without a sum
---   held-within, held-refused                       the held totals, by the record's test
 --   and-true, and-false                             a conjunction, by its first part
 use mathlib.Core.Bool.{Bool, true, false, _&&_}
 use mathlib.Core.Path.{_≡_, refl, sym}
@@ -12,13 +10,10 @@ use Prim.Native.Nat.{ℕ, _+_, _-_, _≤_, _<_}
 use native.Mathlib.Omega.{arith}
 use lib.Dec.{leb, eqb}
 use borrow.Author.Tests.{leb-true, eqb-true, eqb-false, eq-eqb, ne-eqb}
-use Rattle.vectors.specs.Columns.{asm1Ceilings, digesterCeilings, within, Below}
-use Rattle.vectors.proofs.Laws.Columns.{both-true, within-below}
-use Rattle.vectors.specs.declared.figures.Figures.{Figures}
+use Rattle.vectors.specs.Columns.{asm1Ceilings, digesterCeilings, within}
+use Rattle.vectors.proofs.Laws.Columns.{both-true}
 use Rattle.plant.specs.declared.record.Plant.{Plant}
-use Rattle.plant.specs.declared.holding.HeldTotals.{HeldTotals}
 use Rattle.plant.specs.Record.{recordWithin, thousandths}
-use Rattle.plant.specs.Held.{codIn, tknIn, oxygenIn, nitrateIn, heldTotals, heldOf}
 
 pub sludge-within : (p : Plant) → recordWithin p ≡ true → within asm1Ceilings p.sludge ≡ true
 unfolding recordWithin
@@ -31,14 +26,6 @@ digester-within p e = both-true _ (within asm1Ceilings p.reject) (both-true (wit
 pub reject-within : (p : Plant) → recordWithin p ≡ true → within asm1Ceilings p.reject ≡ true
 unfolding recordWithin
 reject-within p e = both-true (within digesterCeilings p.digester) _ (both-true (within asm1Ceilings p.sludge) _ e .1) .1
-
--- the same as inequalities
-pub record-below : (p : Plant) → recordWithin p ≡ true
-    → (Below asm1Ceilings p.sludge) × ((Below digesterCeilings p.digester) × (Below asm1Ceilings p.reject))
-record-below p e = (
-  within-below asm1Ceilings p.sludge (sludge-within p e),
-  (within-below digesterCeilings p.digester (digester-within p e), within-below asm1Ceilings p.reject (reject-within p e)),
-)
 
 pub thousandths-le : (k : ℕ) → thousandths k ≡ true → k ≤ 1000
 unfolding thousandths
@@ -61,15 +48,3 @@ closes old new gas h = go (eqb (old - new) gas) refl
 
 pub closes-not : (old new gas : ℕ) → old < new → false ≡ eqb old (new + gas)
 closes-not old new gas h = sym (ne-eqb old (new + gas) (λ z. omega arith))
-
--- ---- what is held, by the record's test
-
-module _ (f : Figures) (p : Plant) where
-  pub held-within : {x : HeldTotals} → recordWithin p ≡ true → x ≡ heldTotals 0 (codIn p) (tknIn f p) (oxygenIn p) (nitrateIn p)
-      → x ≡ heldOf f p
-  unfolding heldOf
-  held-within h e = rw h e
-
-  pub held-refused : recordWithin p ≡ false → heldTotals 1 0 0 0 0 ≡ heldOf f p
-  unfolding heldOf
-  held-refused h = rw h

@@ -12,7 +12,7 @@ use native.Mathlib.Omega.{arith}
 use lib.ListN.{length}
 use borrow.Author.Tests.{lt-ltb, le-ltb}
 use Rattle.plant.specs.declared.answer.Answer.{Answer}
-use Rattle.plant.specs.declared.holding.HeldTotals.{HeldTotals}
+use Rattle.holding.specs.declared.holding.HeldTotals.{HeldTotals}
 use Rattle.writing.specs.Buffer.{Answered}
 use Rattle.writing.specs.Answer.{answerText, heldText, fitting}
 

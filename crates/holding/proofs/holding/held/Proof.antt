@@ -1,12 +1,12 @@
--- `plant::holding::held` meets its contract. Assumes nothing.
+-- `holding::holding::held` meets its contract. Assumes nothing.
 use Rattle.vectors.specs.Columns.{Below, asm1Ceilings, digesterCeilings}
 use Rattle.vectors.specs.Figures.{house}
 use Rattle.vectors.specs.Units.{milligrams, ticks}
-use Rattle.plant.proofs.Laws.Record.{record-below, held-within, held-refused}
 use Rattle.plant.proofs.Laws.Decision.{flag}
+use Rattle.holding.proofs.Laws.Held.{record-below, held-within, held-refused}
 use borrow.Author.Needs.{needs}
-use Rattle.plant.proofs.holding.held.Statement.{statement}
-use Rattle.plant.proofs.holding.held.Tie as tie
+use Rattle.holding.proofs.holding.held.Statement.{statement}
+use Rattle.holding.proofs.holding.held.Tie as tie
 
 record-within-requires : tie.Need-record-within-requires
 record-within-requires c κs = search needs

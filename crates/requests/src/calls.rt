@@ -1,18 +1,18 @@
 // Any of the calls, by a request, and a preview of it.
 ghost use mathlib.Core.Path.{_≡_};
 ghost use Rattle.vectors.specs.Figures.{house};
 ghost use Rattle.plant.specs.Answer.{told};
 ghost use Rattle.plant.specs.Calls.{step, previewOf, outcomeBy, toldOf};
-use crate::answer::Call;
-use crate::answer::Outcome;
-use crate::answer::Request;
-use crate::feeding::feed;
-use crate::receiving::receive;
-use crate::record::Plant;
-use crate::recycling::recycle;
-use crate::releasing::release;
-use crate::returning::give_back;
-use crate::settling::settle;
+use plant::Call;
+use plant::Outcome;
+use plant::Plant;
+use plant::Request;
+use plant::feed;
+use plant::give_back;
+use plant::receive;
+use plant::recycle;
+use plant::release;
+use plant::settle;
 
 // What the request's call gives on the record.
 pub fn answer_request(plant: Plant, request: Request) -> Outcome

@@ -3,11 +3,11 @@ ghost use mathlib.Core.Path.{_≡_};
 ghost use Prim.Native.Nat.{_+_};
 ghost use Rattle.vectors.specs.Columns.{Below, asm1Ceilings, digesterCeilings};
 ghost use Rattle.vectors.specs.Figures.{house};
-ghost use Rattle.plant.specs.Held.{heldOf};
+ghost use Rattle.holding.specs.Held.{heldOf};
 ghost use Rattle.vectors.specs.Totals.{asm1Cod, asm1Tkn, digesterCod, digesterTkn};
 ghost use Rattle.vectors.specs.Totals.{asm1Oxygen, asm1Nitrate, digesterOxygen, digesterNitrate};
-use crate::record::Plant;
-use crate::record::record_within;
+use plant::Plant;
+use plant::record_within;
 use vectors::Milligrams;
 use vectors::Ticks;
 

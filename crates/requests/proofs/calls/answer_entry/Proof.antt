@@ -1,15 +1,15 @@
--- `plant::calls::answer_entry` meets its contract. Assumes nothing.
+-- `requests::calls::answer_entry` meets its contract. Assumes nothing.
 use mathlib.Core.Bool.{Bool}
 use mathlib.Core.Path.{_≡_, sym, ap, _∙_}
 use Rattle.vectors.specs.Figures.{house}
 use Rattle.plant.specs.declared.record.Plant.{Plant}
 use Rattle.plant.specs.declared.answer.Request.{Request}
 use Rattle.plant.specs.declared.answer.Outcome.{Outcome}
 use Rattle.plant.specs.Calls.{outcomeBy}
 use Rattle.plant.proofs.Laws.Calls.{previewed}
 use borrow.Author.Needs.{needs}
-use Rattle.plant.proofs.calls.answer_entry.Statement.{statement}
-use Rattle.plant.proofs.calls.answer_entry.Tie as tie
+use Rattle.requests.proofs.calls.answer_entry.Statement.{statement}
+use Rattle.requests.proofs.calls.answer_entry.Tie as tie
 
 answer-request-requires : tie.Need-answer-request-requires
 answer-request-requires c κs = search needs

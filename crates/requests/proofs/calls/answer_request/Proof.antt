@@ -1,16 +1,16 @@
--- `plant::calls::answer_request` meets its contract. Assumes nothing.
+-- `requests::calls::answer_request` meets its contract. Assumes nothing.
 use mathlib.Core.Path.{_≡_, sym, ap, _∙_}
 use Rattle.vectors.specs.Figures.{house}
 use Rattle.plant.specs.declared.record.Plant.{Plant}
 use Rattle.plant.specs.declared.answer.Call.{Call}
 use Rattle.plant.specs.declared.answer.Request.{Request}
 use Rattle.plant.specs.declared.answer.Outcome.{Outcome}
 use Rattle.plant.specs.Answer.{told}
 use Rattle.plant.specs.Calls.{stepBy, step, toldOf}
 use Rattle.plant.proofs.Laws.Calls.{answered}
 use borrow.Author.Needs.{needs}
-use Rattle.plant.proofs.calls.answer_request.Statement.{statement}
-use Rattle.plant.proofs.calls.answer_request.Tie as tie
+use Rattle.requests.proofs.calls.answer_request.Statement.{statement}
+use Rattle.requests.proofs.calls.answer_request.Tie as tie
 
 enum-told : tie.Need-enum-told
 enum-told c = search needs

@@ -1,0 +1,2 @@
+-- Laws of what is held.
+pub mod Held
