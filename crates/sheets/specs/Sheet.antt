@@ -8,6 +8,7 @@
 --   unseenOf                what a sheet tells: the limits' totals of milligrams, oxygen among them, of ticks and of millimoles,
 --                           and that number
 --   sheetCounts             the refusal alone, or all of these
+--   sheetReceived           what receive answered, for a sheet
 --   sheetStep               the call: the counts of a sheet that is not turned away go through receive
 --   CountsWithinLaw         no count is above its column's ceiling. proofs/Laws/Sheet.antt proves it: counts-within
 --   SheetTestsLaw           so that a sheet is refused with 13 or 14, 1 and 10, the first that applies: sheet-tests
@@ -119,16 +120,16 @@ sheetCounts s =
 abbrev pub sheetRefused : Plant → ℕ → SheetOutcome
 sheetRefused p n = record { refusal = n; unseen = nothingUnseen; plant = p }
 
--- behind receive, whose refusals are 1 and 10
-abbrev pub receivedBy : List ℕ → ℕ → Outcome → SheetOutcome
-receivedBy limits missing o =
+-- behind receive, whose refusals are 1 and 10; u is what the sheet tells
+abbrev pub sheetReceived : Unseen → Outcome → SheetOutcome
+sheetReceived u o =
     let n = told (o .answer) .number in
-    cond (eqb n 0) (record { refusal = 0; unseen = unseenBy limits missing; plant = o .plant }) (sheetRefused (o .plant) n)
+    cond (eqb n 0) (record { refusal = 0; unseen = u; plant = o .plant }) (sheetRefused (o .plant) n)
 
 unfoldable pub sheetStep : Figures → Plant → List Finding → SheetOutcome
 sheetStep f p s =
     let n = refusalIn s in
-    cond (eqb n 0) (receivedBy (limitsOf s) (notSampled s) (step f p (receiving (countsOf s)))) (sheetRefused p n)
+    cond (eqb n 0) (sheetReceived (unseenOf s) (step f p (receiving (countsOf s)))) (sheetRefused p n)
 
 -- ---- the claims
 

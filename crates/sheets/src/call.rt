@@ -2,7 +2,7 @@
 ghost use mathlib.Core.Path.{_≡_};
 ghost use Rattle.vectors.specs.Columns.{asm1Ceilings, Below};
 ghost use Rattle.vectors.specs.Figures.{house};
-ghost use Rattle.sheets.specs.Sheet.{sheetStep, sheetRefused, receivedBy, unseenBy};
+ghost use Rattle.sheets.specs.Sheet.{sheetStep, sheetRefused, sheetReceived, unseenBy};
 use crate::finding::Finding;
 use crate::sheet::SheetCounts;
 use crate::sheet::read_sheet;
@@ -44,7 +44,7 @@ pub fn receive_sheet(plant: Plant, sheet: [Finding; 13]) -> SheetOutcome
 // What receive's outcome is for a sheet.
 fn received(s: SheetCounts, o: Outcome) -> SheetOutcome
     requires { ⌜ Below asm1Ceilings (s .limits) ⌝ }
-    ensures { λ r. ⌜ r ≡ receivedBy (s .limits) (s .missing) o ⌝ }
+    ensures { λ r. ⌜ r ≡ sheetReceived (unseenBy (s .limits) (s .missing)) o ⌝ }
 {
     let answer = o.answer;
     let next = o.plant;

@@ -39,8 +39,8 @@ use Rattle.sheets.specs.declared.sheet.SheetCounts.{SheetCounts}
 use Rattle.sheets.specs.declared.call.SheetOutcome.{SheetOutcome}
 use Rattle.sheets.specs.declared.call.Unseen.{Unseen}
 use Rattle.sheets.specs.Value.{readingOf}
-use Rattle.sheets.specs.Sheet.{scales, readingsBy, readings, refusalIn, countsOf, limitsOf, sum, notSampled}
-use Rattle.sheets.specs.Sheet.{refusedCounts, sheetCounts, unseenBy, sheetRefused, receivedBy, sheetStep}
+use Rattle.sheets.specs.Sheet.{scales, readingsBy, readings, refusalIn, countsOf, limitsOf, sum, notSampled, unseenOf}
+use Rattle.sheets.specs.Sheet.{refusedCounts, sheetCounts, unseenBy, sheetRefused, sheetReceived, sheetStep}
 use Rattle.sheets.specs.Sheet.{CountsWithinLaw, SheetTestsLaw, SheetRefusedLaw, SheetAddsLaw}
 use Rattle.sheets.proofs.Laws.Value.{count-le, limit-le}
 
@@ -200,12 +200,11 @@ unseen-added v n c e =
     (e ∙ ap (λ (m : ℕ). m + asm1Oxygen v) c)
 
 -- behind receive: none of its refusals applied, or one did
-module _ (limits : List ℕ) (missing : ℕ) (o : Outcome) (n : ℕ) (e : n ≡ told (o .answer) .number) where
-  pub received-none : n ≡ 0 → {u : Unseen} → u ≡ unseenBy limits missing
-      → record { refusal = 0; unseen = u; plant = o .plant } ≡ receivedBy limits missing o
+module _ (w : Unseen) (o : Outcome) (n : ℕ) (e : n ≡ told (o .answer) .number) where
+  pub received-none : n ≡ 0 → {u : Unseen} → u ≡ w → record { refusal = 0; unseen = u; plant = o .plant } ≡ sheetReceived w o
   received-none z v = ap (λ (u : Unseen). record { refusal = 0; unseen = u; plant = o .plant }) v ∙ rw (sym e ∙ z) refl
 
-  pub received-refused : (n ≡ 0 → ⊥) → {r : SheetOutcome} → r ≡ sheetRefused (o .plant) n → r ≡ receivedBy limits missing o
+  pub received-refused : (n ≡ 0 → ⊥) → {r : SheetOutcome} → r ≡ sheetRefused (o .plant) n → r ≡ sheetReceived w o
   received-refused z v =
       v ∙ ap (sheetRefused (o .plant)) e ∙ rw (ne-eqb (told (o .answer) .number) 0 (λ u. z (e ∙ u))) refl
 
@@ -230,13 +229,13 @@ module _ (s : List Finding) (c : SheetCounts) (e : c ≡ sheetCounts s) where
 
   module _ (f : Figures) (p : Plant) where
     pub sheet-received : c .refusal ≡ 0 → {o : Outcome} {r : SheetOutcome} → o ≡ step f p (receiving (c .counts))
-        → r ≡ receivedBy (c .limits) (c .missing) o → r ≡ sheetStep f p s
+        → r ≡ sheetReceived (unseenBy (c .limits) (c .missing)) o → r ≡ sheetStep f p s
     unfolding sheetStep
     sheet-received z u v =
         let w = counts-accepted z in
         v
-        ∙ ap (receivedBy (c .limits) (c .missing)) u
-        ∙ ap (λ (d : SheetCounts). receivedBy (d .limits) (d .missing) (step f p (receiving (d .counts)))) w
+        ∙ ap (sheetReceived (unseenBy (c .limits) (c .missing))) u
+        ∙ ap (λ (d : SheetCounts). sheetReceived (unseenBy (d .limits) (d .missing)) (step f p (receiving (d .counts)))) w
         ∙ rw (sym counts-refusal ∙ z) refl
 
     pub sheet-turned : (c .refusal ≡ 0 → ⊥) → {r : SheetOutcome} → r ≡ sheetRefused p (c .refusal) → r ≡ sheetStep f p s
@@ -251,8 +250,8 @@ receive-tests : (f : Figures) (p : Plant) (s : List Finding) → told (step f p 
 unfolding receive unless first
 receive-tests f p s = exact f p (receiving (countsOf s)) ∙ rw (counts-within s) refl
 
-received-refusal : (limits : List ℕ) (missing : ℕ) (o : Outcome) → receivedBy limits missing o .refusal ≡ told (o .answer) .number
-received-refusal limits missing o =
+received-refusal : (u : Unseen) (o : Outcome) → sheetReceived u o .refusal ≡ told (o .answer) .number
+received-refusal u o =
     number-case (λ (r : SheetOutcome). r .refusal ≡ told (o .answer) .number) (told (o .answer) .number) _ _ sym (λ z. refl)
 
 pub sheet-tests : SheetTestsLaw
@@ -261,7 +260,7 @@ sheet-tests f p s =
     let o = step f p (receiving (countsOf s)) in
     let ns = unless (recordWithin p) 1 ∷ unless (within asm1Ceilings (added p.sludge (countsOf s))) 10 ∷ [] in
     number-case (λ (r : SheetOutcome). r .refusal ≡ first (refusalIn s ∷ ns)) (refusalIn s) _ _
-    (λ z. first-number (refusalIn s) ns z (received-refusal (limitsOf s) (notSampled s) o ∙ receive-tests f p s))
+    (λ z. first-number (refusalIn s) ns z (received-refusal (unseenOf s) o ∙ receive-tests f p s))
     (λ z. first-sent (refusalIn s) ns z)
 
 -- a receive, by its number
