@@ -9,7 +9,8 @@
 --   accepted                                an answer that tells no refusal
 --   counts                                  what a call counts for: a receive takes its vector in, a release hands one out, a settle
 --                                           lets gas go; of the others, recycles among them, only what they tell is counted
---   received, released                      a total of the vectors handed to accepted receives, and handed out by accepted releases
+--   received, released                      a total of the vectors handed to accepted receives and of the counts of accepted sheets, and
+--                                           of the vectors handed out by accepted releases
 --   burnt, oxygenReduced, nitrateReduced    what accepted feeds tell
 --   gas                                     the gas COD handed to accepted settles
 --   stripped                                what accepted returns tell

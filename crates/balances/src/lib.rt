@@ -1,2 +1,2 @@
-// The list theorem: over any list of calls and previews, COD, TKN, oxygen and nitrate balance.
+// The list theorem: over any list of calls, previews and sheets, COD, TKN, oxygen and nitrate balance.
 // Definitions (specs/) and proofs (proofs/), no code.

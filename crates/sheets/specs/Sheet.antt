@@ -22,8 +22,7 @@ use lib.Dec.{eqb}
 use Rattle.vectors.specs.declared.figures.Figures.{Figures}
 use Rattle.vectors.specs.Columns.{asm1, asm1Columns, asm1Ceilings, within, added}
 use Rattle.vectors.specs.Totals.{asm1Cod, asm1Oxygen}
-use Rattle.vectors.specs.Units.{milligrams, ticks}
-use Rattle.vectors.specs.declared.units.Millimoles.{Millimoles}
+use Rattle.vectors.specs.Units.{milligrams, ticks, millimoles}
 use Rattle.plant.specs.declared.record.Plant.{Plant}
 use Rattle.plant.specs.declared.answer.Outcome.{Outcome}
 use Rattle.plant.specs.Record.{noColumns, recordWithin}
@@ -87,9 +86,6 @@ abbrev pub notSampled : List Finding → ℕ
 notSampled s = sum (map (λ (r : Reading). r .missing) (readings s))
 
 -- ---- what it tells
-
-abbrev pub millimoles : ℕ → Millimoles
-millimoles n = record { 0 = n }
 
 unfoldable pub unseenBy : List ℕ → ℕ → Unseen
 unseenBy limits n =

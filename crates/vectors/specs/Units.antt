@@ -2,8 +2,10 @@
 --
 --   milligrams   of COD or of oxygen
 --   ticks        of nitrogen or of nitrate, 0.0001 mg N each
+--   millimoles   of alkalinity or of inorganic carbon
 use Prim.Native.Nat.{ℕ}
 use Rattle.vectors.specs.declared.units.Milligrams.{Milligrams}
+use Rattle.vectors.specs.declared.units.Millimoles.{Millimoles}
 use Rattle.vectors.specs.declared.units.Ticks.{Ticks}
 
 abbrev pub milligrams : ℕ → Milligrams
@@ -11,3 +13,6 @@ milligrams n = record { 0 = n }
 
 abbrev pub ticks : ℕ → Ticks
 ticks n = record { 0 = n }
+
+abbrev pub millimoles : ℕ → Millimoles
+millimoles n = record { 0 = n }
