@@ -1,5 +1,7 @@
 // Closing a proposal: the gas and the vector with which settle accepts what a solver in floating point proposes, and how far off it is.
 // Both leave the record as it is. ../specs/Closing.antt has the theorem that settle accepts what close gives.
+#![tactic(auto)]
+
 ghost use Rattle.std.specs.Prelude.{◌≡◌, ◌≤◌};
 ghost use Rattle.vectors.specs.Columns.{Below, digester_ceilings};
 ghost use Rattle.vectors.specs.Figures.{house};

@@ -1,5 +1,7 @@
 // Vectors by the names of their columns, each in its unit, and their arrays.
 // The conversions compute on these.
+#![tactic(auto)]
+
 mod columns;
 
 pub use columns::{Asm1, Digester, asm1_array, asm1_of, digester_array, digester_of};

@@ -2,6 +2,8 @@
 //
 //   fields   the columns of a vector in order, zero ones left away
 //   line     a call's line and its newline
+#![tactic(auto)]
+
 mod fields;
 mod line;
 

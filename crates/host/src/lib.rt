@@ -8,6 +8,8 @@
 //   conversions  the two conversions of a vector by itself
 //   proposals    a proposal for settle: what closes it, and how far off it is
 //   record       52 columns and the plant record that they stand for
+#![tactic(auto)]
+
 mod composed;
 mod conversions;
 mod laboratory;

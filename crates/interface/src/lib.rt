@@ -3,6 +3,8 @@
 //   feed       ASM1 to digester, stages 1 to 5
 //   returning  digester to ASM1
 //   whole      both of any vector, one above its ceilings too
+#![tactic(auto)]
+
 mod feed;
 mod returning;
 mod whole;

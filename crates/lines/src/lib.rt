@@ -2,6 +2,8 @@
 //
 //   asking   the call on a line, and the held line
 //   blocks   a session step by step and block by block
+#![tactic(auto)]
+
 mod asking;
 mod blocks;
 

@@ -1,4 +1,5 @@
 // A short wait.
+#![tactic(auto)]
 
 // Waits for about a millisecond.
 pub fn short_sleep() {

@@ -8,6 +8,8 @@
 //   returning  digester to reject
 //   releasing  reject handed out
 //   recycling  reject back into the sludge tank
+#![tactic(auto)]
+
 mod answer;
 mod feeding;
 mod receiving;

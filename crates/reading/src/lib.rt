@@ -6,6 +6,8 @@
 //   fields   fields in brackets, in the order of their columns
 //   form     the form of a call, with its vectors
 //   line     a line: a call, a preview of one, or no form
+#![tactic(auto)]
+
 mod bytes;
 mod fields;
 mod form;

@@ -4,6 +4,8 @@
 //   value      one value or limit: the floor of it times a scale, by its bits
 //   sheet      thirteen entries: their counts, or the first refusal
 //   call       a sheet into the sludge tank
+#![tactic(auto)]
+
 mod call;
 mod finding;
 mod sheet;

@@ -1,5 +1,7 @@
 // Tests of lent buffers: in buffers of several lengths, with a pattern in them, what is answered, what part is handed back, and whether
 // the bytes behind the answer kept their values.
+#![tactic(auto)]
+
 use plant::{Answer, Plant};
 use vectors::{Milligrams, Ticks};
 

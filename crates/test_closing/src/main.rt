@@ -3,6 +3,8 @@
 //
 //   examples   the records and the proposals
 //   write      what the calls give, as text
+#![tactic(auto)]
+
 mod examples;
 mod write;
 

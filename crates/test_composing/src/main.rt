@@ -1,6 +1,8 @@
 // Tests of calls that are written as lines: in buffers of several lengths, with a pattern in them, each kind of call and its preview,
 // with no column, some, and all at 2^64 - 1. It tells the refusal, the line, whether the bytes behind the newline kept their values, and
 // whether the line is read back as the call and the vector that it takes.
+#![tactic(auto)]
+
 use plant::{Call, Request};
 use reading::{Form, Line};
 use vectors::Milligrams;

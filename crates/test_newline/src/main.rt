@@ -1,4 +1,6 @@
 // The program's session on one newline: an empty line is no form.
+#![tactic(auto)]
+
 fn main() {
     session::serve();
 }

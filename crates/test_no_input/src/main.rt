@@ -1,4 +1,6 @@
 // The program's session on no input at all.
+#![tactic(auto)]
+
 fn main() {
     session::serve();
 }

@@ -1,6 +1,8 @@
 // Runs the hand-worked plants a to k of document 01 through the compiled conversions, with the house set and k = 1000, and writes
 // what each gives: the refusal, or the numbers told and the columns that are not zero. crates/interface/specs/Plants.antt is the same
 // table for the definitions. Under the letter n stand four feeds more, on both sides of nitrate that COD just covers.
+#![tactic(auto)]
+
 fn main() {
     feed(b'a', [0, 40000, 0, 0, 0, 0, 0, 5000, 100000000, 0, 0, 0, 0]);
     feed(

@@ -3,6 +3,8 @@
 //   values   one value at one column, on a fresh record
 //   whole    whole sheets, and records that refuse them
 //   write    what a sheet gives, as text
+#![tactic(auto)]
+
 mod values;
 mod whole;
 mod write;

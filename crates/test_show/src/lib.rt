@@ -1,6 +1,8 @@
 // Writes text, numbers and columns to standard output, for the test programs.
 //
 //   pattern   a pattern in a lent buffer, and whether it is there still
+#![tactic(auto)]
+
 ghost use Rattle.std.specs.Prelude.{◌≡◌, ◌*◌, length};
 
 mod pattern;

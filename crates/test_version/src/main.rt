@@ -1,4 +1,6 @@
 // The program on --version.
+#![tactic(auto)]
+
 fn main() {
     session::serve();
 }

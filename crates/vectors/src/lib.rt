@@ -5,6 +5,8 @@
 //   ceilings   ceilings of the columns, and sums of vectors
 //   draw       k thousandths of a vector
 //   totals     COD and TKN
+#![tactic(auto)]
+
 mod ceilings;
 mod draw;
 mod figures;

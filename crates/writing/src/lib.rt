@@ -2,6 +2,8 @@
 //
 //   put      bytes, numbers and columns into a lent buffer
 //   answer   an answer and the held line as text
+#![tactic(auto)]
+
 mod answer;
 mod put;
 
