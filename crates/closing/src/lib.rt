@@ -12,7 +12,7 @@ use plant::Plant;
 use vectors::{Milligrams, Ticks};
 
 // The gas and the vector that close; where it is refused, no gas and the vector as it was proposed.
-#[derive(Drop)]
+#[derive(Clone, Copy)]
 pub struct Closed {
     pub refusal: u64,
     pub gas: Milligrams,
@@ -20,7 +20,7 @@ pub struct Closed {
 }
 
 // How far off a proposal is: COD too much, nitrogen too much, and the sin that closes above its ceiling.
-#[derive(Drop)]
+#[derive(Clone, Copy)]
 pub struct Gaps {
     pub refusal: u64,
     pub cod: Milligrams,

@@ -5,7 +5,7 @@ ghost use Rattle.columns.specs.Counts.{asm1_counts, digester_counts};
 
 use vectors::{Milligrams, Millimoles, Ticks};
 
-#[derive(Drop)]
+#[derive(Clone, Copy)]
 pub struct Asm1 {
     pub si: Milligrams,
     pub ss: Milligrams,
@@ -22,7 +22,7 @@ pub struct Asm1 {
     pub salk: Millimoles,
 }
 
-#[derive(Drop)]
+#[derive(Clone, Copy)]
 pub struct Digester {
     pub si: Milligrams,
     pub ssu: Milligrams,

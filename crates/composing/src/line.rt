@@ -11,7 +11,7 @@ use plant::{Call, Request};
 use writing::{filled_part, put_bytes, put_labelled};
 
 // The refusal of a line, 0 where there is none, and how many bytes it has with its newline.
-#[derive(Drop)]
+#[derive(Clone, Copy)]
 pub struct Written {
     pub refusal: u64,
     pub length: usize,

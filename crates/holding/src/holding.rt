@@ -10,7 +10,7 @@ use plant::{Plant, record_within};
 use vectors::{Milligrams, Ticks};
 
 // COD, TKN, oxygen and nitrate of all three tanks, or a refusal with zeros.
-#[derive(Drop)]
+#[derive(Clone, Copy)]
 pub struct HeldTotals {
     pub refusal: u64,
     pub cod: Milligrams,

@@ -12,7 +12,7 @@ use vectors::{
 };
 
 // What a feed conversion gives: refusal 0 with the vector and the numbers told, or a refusal with zeros.
-#[derive(Drop)]
+#[derive(Clone, Copy)]
 pub struct Fed {
     pub refusal: u64,
     pub burnt: Milligrams,
@@ -121,7 +121,7 @@ fn nitrate_cod(n: Ticks) -> Milligrams
 }
 
 // A, o, r and D of stage 1.
-#[derive(Drop)]
+#[derive(Clone, Copy)]
 pub struct Demand {
     pub a: Milligrams,
     pub o: Milligrams,
@@ -164,7 +164,7 @@ fn short_demand(a: Milligrams, o: Milligrams, r: Ticks) -> Demand
 }
 
 // What stage 1 leaves.
-#[derive(Drop)]
+#[derive(Clone, Copy)]
 pub struct Left {
     pub ss: Milligrams,
     pub xs: Milligrams,
@@ -208,7 +208,7 @@ fn warn_of(co: Milligrams, cn: Ticks) -> u64
     1
 }
 
-#[derive(Drop)]
+#[derive(Clone, Copy)]
 pub struct Acids {
     pub saa: Milligrams,
     pub ssu: Milligrams,
@@ -238,7 +238,7 @@ fn pool_of(f: Figures, v: Asm1, acids: Acids) -> Ticks
 }
 
 // What stage 4 gives: the digester's xi, the pool and the ammonia left, and whether nitrogen is short.
-#[derive(Drop)]
+#[derive(Clone, Copy)]
 pub struct Inerts {
     pub xi: Milligrams,
     pub pool: Ticks,
@@ -262,7 +262,7 @@ fn inerts_of(f: Figures, v: Asm1, pool: Ticks) -> Inerts
 }
 
 // What stage 5 gives.
-#[derive(Drop)]
+#[derive(Clone, Copy)]
 pub struct Remains {
     pub xc: Milligrams,
     pub xch: Milligrams,

@@ -11,7 +11,7 @@ use columns::{Asm1, Digester, asm1_array, digester_of};
 use vectors::{Figures, Milligrams, Ticks, nitrogen};
 
 // What a return conversion gives: refusal 0 with the vector and the COD stripped, or a refusal with zeros.
-#[derive(Drop)]
+#[derive(Clone, Copy)]
 pub struct Returned {
     pub refusal: u64,
     pub stripped: Milligrams,
@@ -64,7 +64,7 @@ fn return_taken(f: Figures, d: Digester, left: Nitrogen) -> Returned
 }
 
 // Nitrogen in ASM1's three columns.
-#[derive(Drop)]
+#[derive(Clone, Copy)]
 pub struct Nitrogen {
     pub xnd: Ticks,
     pub snd: Ticks,

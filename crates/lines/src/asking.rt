@@ -10,7 +10,7 @@ use requests::answer_entry;
 use writing::{write_answer, write_held};
 
 // The outcome of a line, and how many bytes its answer has.
-#[derive(Drop)]
+#[derive(Clone, Copy)]
 pub struct LineOutcome {
     pub outcome: Outcome,
     pub length: usize,
@@ -55,7 +55,7 @@ fn form_outcome(plant: Plant, l: Line) -> Outcome
 }
 
 // The refusal of a held line, 0 where there is none, and how many bytes the line has.
-#[derive(Drop)]
+#[derive(Clone, Copy)]
 pub struct HeldOutcome {
     pub refusal: u64,
     pub length: usize,

@@ -12,7 +12,7 @@ use writing::put_fitting;
 
 // What is carried from block to block: how many bytes of the block are used, how many are held of the line that is not
 // ended, how many answer bytes are not written, and the record.
-#[derive(Drop)]
+#[derive(Clone, Copy)]
 pub struct Place {
     pub used: usize,
     pub held: usize,
@@ -113,7 +113,7 @@ fn keep_bytes(line: &mut [u8], held: usize, s: &[u8]) -> usize
 }
 
 // The record after a line, and the place behind its answer.
-#[derive(Drop)]
+#[derive(Clone, Copy)]
 pub struct Gathered {
     pub at: usize,
     pub plant: Plant,

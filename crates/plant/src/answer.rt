@@ -6,7 +6,7 @@ use crate::record::Plant;
 use vectors::{Milligrams, Ticks};
 
 // A call. Feed, Return, Release and Recycle have their k, and Settle its gas COD.
-#[derive(Drop)]
+#[derive(Clone, Copy)]
 pub enum Call {
     Receive,
     Feed(u64),
@@ -17,7 +17,7 @@ pub enum Call {
 }
 
 // A call with the vectors that it is handed: Receive takes sludge, Settle takes digester, and the others none.
-#[derive(Drop)]
+#[derive(Clone, Copy)]
 pub struct Request {
     pub call: Call,
     pub sludge: [u64; 13],
@@ -25,7 +25,7 @@ pub struct Request {
 }
 
 // What a call answers: a refusal with its number, or the numbers that it tells.
-#[derive(Drop)]
+#[derive(Clone, Copy)]
 pub enum Answer {
     Refused(u64),
     Received,
@@ -44,7 +44,7 @@ pub enum Answer {
 }
 
 // The answer, the vector that a release hands out, which is zero otherwise, and the new record.
-#[derive(Drop)]
+#[derive(Clone, Copy)]
 pub struct Outcome {
     pub answer: Answer,
     pub vector: [u64; 13],
@@ -63,7 +63,7 @@ pub fn refusal(p: Plant, n: u64) -> Outcome
 }
 
 // What an answer tells, as numbers: the refusal's, or 0, and the values; those that it does not tell are 0.
-#[derive(Drop)]
+#[derive(Clone, Copy)]
 pub struct Told {
     pub number: u64,
     pub burnt: u64,

@@ -3,7 +3,7 @@ ghost use Rattle.std.specs.Prelude.{◌≡◌};
 ghost use Rattle.plant.specs.Record.{fresh_plant, record_within, thousandths};
 
 // Three tanks: sludge and reject are ASM1 vectors, the digester is a digester vector.
-#[derive(Drop)]
+#[derive(Clone, Copy)]
 pub struct Plant {
     pub sludge: [u64; 13],
     pub digester: [u64; 26],

@@ -8,14 +8,14 @@ use crate::names::{Column, Vector, find};
 use crate::number::{Number, read_number};
 
 // A column and its number.
-#[derive(Drop)]
+#[derive(Clone, Copy)]
 pub enum Field {
     Of(usize, u64),
     NotAField,
 }
 
 // The fields read so far, and which columns were named.
-#[derive(Drop)]
+#[derive(Clone, Copy)]
 pub struct Fields {
     pub ok: bool,
     pub columns: [u64; 26],

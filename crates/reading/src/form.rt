@@ -12,14 +12,14 @@ use plant::Call;
 use vectors::Milligrams;
 
 // What a line asks: a call, or only a preview of it.
-#[derive(Drop)]
+#[derive(Clone, Copy)]
 pub enum Form {
     Asked { call: Call, preview: bool },
     NotAForm,
 }
 
 // A form with its vectors beside it, which are zero where it has none.
-#[derive(Drop)]
+#[derive(Clone, Copy)]
 pub struct Line {
     pub form: Form,
     pub sludge: [u64; 13],

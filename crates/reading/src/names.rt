@@ -6,14 +6,14 @@ ghost use Rattle.reading.specs.Names.{column_of, from_column, entry_at, entries,
 use crate::bytes::{place, same};
 
 // Which vector a column belongs to.
-#[derive(Drop)]
+#[derive(Clone, Copy)]
 pub enum Vector {
     Sludge,
     Digester,
 }
 
 // The column that a name stands for.
-#[derive(Drop)]
+#[derive(Clone, Copy)]
 pub enum Column {
     At(usize),
     Unknown,

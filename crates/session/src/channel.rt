@@ -5,7 +5,7 @@ ghost use Rattle.std.specs.Prelude.{true, ◌≡◌, ◌≤◌, length};
 use libc::{EAGAIN, EINTR, STDIN_FILENO, STDOUT_FILENO};
 
 // What a read gave: so many bytes, none at the input's end; or it failed.
-#[derive(Drop)]
+#[derive(Clone, Copy)]
 pub struct Got {
     pub count: usize,
     pub failed: bool,

@@ -77,7 +77,7 @@ fn end_talk(line: &[u8], out: &mut [u8], p: Place)
 }
 
 // Whether answers were written, and the place with none that are not.
-#[derive(Drop)]
+#[derive(Clone, Copy)]
 pub struct Written {
     pub done: bool,
     pub place: Place,

@@ -11,7 +11,7 @@ use vectors::{Milligrams, Millimoles, Ticks};
 
 // What lies unseen below the detection limits, at most: milligrams of COD and oxygen, ticks, millimoles; and how many columns were
 // not sampled.
-#[derive(Drop)]
+#[derive(Clone, Copy)]
 pub struct Unseen {
     pub milligrams: Milligrams,
     pub ticks: Ticks,
@@ -20,7 +20,7 @@ pub struct Unseen {
 }
 
 // The refusal's number, or 0; what is told, zeros where it is refused; and the new record.
-#[derive(Drop)]
+#[derive(Clone, Copy)]
 pub struct SheetOutcome {
     pub refusal: u64,
     pub unseen: Unseen,

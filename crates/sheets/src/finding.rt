@@ -5,7 +5,7 @@ ghost use Rattle.sheets.specs.Value.{reading_of};
 use crate::value::count_value;
 
 // A measured value, a result below a detection limit with that limit, both in grams or moles, or not sampled.
-#[derive(Drop)]
+#[derive(Clone, Copy)]
 pub enum Finding {
     Measured(f32),
     BelowLimit(f32),
@@ -13,7 +13,7 @@ pub enum Finding {
 }
 
 // What an entry comes to: its refusal, 13 or 14, or 0; what it counts as; the count of its limit; 1 where it was not sampled.
-#[derive(Drop)]
+#[derive(Clone, Copy)]
 pub struct Reading {
     pub refusal: u64,
     pub count: u64,

@@ -28,7 +28,7 @@ const SCALES: [u64; 13] = [
 
 // The refusal, 13 or 14, of the first bad column, and zeros; or 0, what the entries count as, the counts of their limits, and how
 // many were not sampled.
-#[derive(Drop)]
+#[derive(Clone, Copy)]
 pub struct SheetCounts {
     pub refusal: u64,
     pub counts: [u64; 13],

@@ -2,7 +2,7 @@
 use plant::{Answer, Call, Plant, Request};
 
 // One total of each balance.
-#[derive(Drop)]
+#[derive(Clone, Copy)]
 pub struct Amounts {
     pub cod: u64,
     pub tkn: u64,
@@ -11,7 +11,7 @@ pub struct Amounts {
 }
 
 // The record, what was received, and what was released, burnt, reduced, vented or stripped; and how many calls were accepted.
-#[derive(Drop)]
+#[derive(Clone, Copy)]
 pub struct Run {
     pub plant: Plant,
     pub received: Amounts,

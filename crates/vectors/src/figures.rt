@@ -1,5 +1,5 @@
 // The nine figures of document 01. Nitrogen is in ticks per milligram of COD, and fxi, fch, fli are parts in ten thousand.
-#[derive(Drop)]
+#[derive(Clone, Copy)]
 pub struct Figures {
     pub ixb: u64,
     pub ixe: u64,

@@ -4,15 +4,15 @@
 ghost use Rattle.std.specs.Prelude.{◌≡◌, ◌+◌, ◌-◌, ◌*◌, ◌/◌, ◌≤◌, min, leb, ltb, eqb};
 
 // Milligrams of COD or of oxygen.
-#[derive(Drop)]
+#[derive(Clone, Copy)]
 pub struct Milligrams(pub u64);
 
 // Ticks of nitrogen or of nitrate: 0.0001 mg N.
-#[derive(Drop)]
+#[derive(Clone, Copy)]
 pub struct Ticks(pub u64);
 
 // Millimoles of alkalinity or of inorganic carbon.
-#[derive(Drop)]
+#[derive(Clone, Copy)]
 pub struct Millimoles(pub u64);
 
 impl Milligrams {

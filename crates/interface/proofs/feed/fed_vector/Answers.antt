@@ -1,11 +1,10 @@
 -- `interface::feed::fed_vector` meets its contract. Assumes nothing.
-use Rattle.interface.proofs.feed.fed_vector.Statement.{statement}
-use Rattle.interface.proofs.feed.fed_vector.Tie as tie
+use Rattle.interface.proofs.feed.fed_vector.Goals as goal
 
-returns : tie.Need-returns
+pub returns : goal.returns
 returns c =
-    let v = c.before.before.before.before.before.before.before.before.before.before.before.args.v in
-    let h = c.before.before.before.before.before.before.before.before.before.before.before.requires in
+    let v = c.args.v in
+    let h = c.requires in
     λ i.
     record {
       si = v.si.0;
@@ -35,6 +34,3 @@ returns c =
       co = h.left.co i;
       cn = h.left.cn i;
     }
-
-pub fed-vector-spec : {M : Type 1} → statement M
-fed-vector-spec = tie.close (tie.spec returns)

@@ -1,0 +1,33 @@
+-- `interface::feed::demand_of` meets its contract. Assumes nothing.
+use Rattle.columns.specs.Counts.{asm1_counts}
+use Rattle.interface.specs.Feed.{nitrate_rule}
+use Rattle.interface.proofs.Laws.Feed.{stage1-is, stage1-covered-is, stage1-short-is}
+use native.Mathlib.Omega.{arith}
+use Rattle.interface.proofs.feed.demand_of.Goals as goal
+
+pub nitrate_cod-requires : goal.nitrate_cod-requires
+nitrate_cod-requires c =
+    omega (arith, c.requires)
+
+pub returns-then-is_covered : goal.returns-then-is_covered
+returns-then-is_covered c =
+    let v = asm1_counts c.args.v in
+    let p =
+    stage1-is nitrate_rule v c.plus.ensures.0 c.plus-2.ensures.0 c.plus-a.ensures.0
+    c.least-o.ensures.0 c.less-x.ensures.0 in
+    let q =
+    stage1-covered-is nitrate_rule v (omega arith) p.1 p.2 c.is_covered.ensures c.if-is_covered.true
+    c.nitrate_cod.ensures.0 c.plus-then-is_covered.ensures.0 in
+    record { A = p.0; o = p.1; r = q.0; D = q.1 }
+
+pub returns : goal.returns
+returns c =
+    let v = asm1_counts c.args.v in
+    let p =
+    stage1-is nitrate_rule v c.plus.ensures.0 c.plus-2.ensures.0 c.plus-a.ensures.0
+    c.least-o.ensures.0 c.less-x.ensures.0 in
+    let q =
+    stage1-short-is nitrate_rule v (omega arith) (omega arith) p.0 p.2 c.is_covered.ensures
+    c.if-is_covered.false c.reducible-r.ensures in
+    let e = c.short_demand.ensures in
+    rw (e.0.0, e.0.1, e.1.0, e.1.1) (record { A = p.0; o = p.1; r = q.0; D = q.1 })

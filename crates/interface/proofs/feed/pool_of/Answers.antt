@@ -1,0 +1,29 @@
+-- `interface::feed::pool_of` meets its contract. Assumes nothing.
+use Rattle.columns.specs.Counts.{asm1_counts}
+use Rattle.interface.proofs.Laws.Feed.{stage3-is}
+use native.Mathlib.Omega.{arith}
+use Rattle.interface.proofs.feed.pool_of.Goals as goal
+
+pub plus-requires-2 : goal.plus-requires-2
+plus-requires-2 c = omega (arith, c.requires.1.0)
+
+pub plus-requires-3 : goal.plus-requires-3
+plus-requires-3 c = omega (arith, c.requires.1.0, c.less-soluble.ensures.1, c.plus.ensures.0, c.nitrogen-biomass.ensures.1, c.plus-2.ensures.0, c.nitrogen-inert.ensures.1)
+
+pub plus-requires-4 : goal.plus-requires-4
+plus-requires-4 c = omega (arith, c.requires.1.0, c.less-soluble.ensures.1, c.plus.ensures.0, c.nitrogen-biomass.ensures.1, c.plus-2.ensures.0, c.nitrogen-inert.ensures.1, c.plus-3.ensures.0)
+
+pub plus-requires-5 : goal.plus-requires-5
+plus-requires-5 c = omega (arith, c.requires.1.0, c.less-soluble.ensures.1, c.plus.ensures.0, c.nitrogen-biomass.ensures.1, c.plus-2.ensures.0, c.nitrogen-inert.ensures.1, c.plus-3.ensures.0, c.plus-4.ensures.0)
+
+pub returns : goal.returns
+returns c =
+    let two = c.plus-3.ensures.0 in
+    let three = c.plus-4.ensures.0 in
+    let all = c.plus-5.ensures.0 in (
+      stage3-is c.args.f (asm1_counts c.args.v) _ c.requires.1.1.saa
+          c.nitrogen.ensures.0 c.less-soluble.ensures.0
+          c.plus.ensures.0 c.nitrogen-biomass.ensures.0
+          c.plus-2.ensures.0 c.nitrogen-inert.ensures.0 two three all,
+      omega (arith, c.requires.1.0, c.less-soluble.ensures.1, c.plus.ensures.0, c.nitrogen-biomass.ensures.1, c.plus-2.ensures.0, c.nitrogen-inert.ensures.1, two, three, all),
+    )
