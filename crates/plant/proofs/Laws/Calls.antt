@@ -25,7 +25,7 @@ use Rattle.plant.specs.declared.answer.Request.{Request}
 use Rattle.plant.specs.declared.answer.Outcome.{Outcome}
 use Rattle.plant.specs.declared.answer.Told.{Told}
 use Rattle.plant.specs.Record.{record_within}
-use Rattle.plant.specs.Answer.{nothing, told, refused, first, decide}
+use Rattle.plant.specs.Answer.{nothing, told, refused, decide}
 use Rattle.plant.specs.Calls.{receive, feed, settle, give_back, release, recycle, rule_by, step_by, step, preview_of}
 use Rattle.plant.specs.Calls.{refusal_of, tells_by, told_of, settling}
 use Rattle.plant.specs.Calls.{TellsLaw, ExactLaw}
