@@ -1,0 +1,15 @@
+-- `reading::number::read_number` meets its contract. Assumes nothing.
+use mathlib.Core.Path.{sym, ◌∙◌}
+use mathlib.Core.Logic.{⊎_elim, inl, inr}
+use Rattle.reading.proofs.Laws.Number.{number-empty, number-zero, number-led}
+use Rattle.reading.proofs.number.read_number.Goals as goal
+
+pub returns-then-s-eq0 : goal.returns-then-s-eq0
+returns-then-s-eq0 c = sym (number-empty _ c.if-s-eq0.true)
+
+pub returns-then-s-gt1 : goal.returns-then-s-gt1
+returns-then-s-gt1 c = sym (number-zero _ c.if-s-eq48.true c.if-s-gt1.true)
+
+pub returns : goal.returns
+returns c =
+    c.digits.ensures ∙ sym (number-led _ c.if-s-eq0.false (⊎_elim (λ w. inr w.1.left) (λ w. inl w.left) c.if-s-eq48.branch))

@@ -1,0 +1,24 @@
+-- `requests::calls::answer_entry` meets its contract. Assumes nothing.
+use mathlib.Core.Bool.{Bool}
+use mathlib.Core.Path.{◌≡◌, sym, ap, ◌∙◌}
+use Rattle.vectors.specs.Figures.{house}
+use Rattle.plant.specs.declared.record.Plant.{Plant}
+use Rattle.plant.specs.declared.answer.Request.{Request}
+use Rattle.plant.specs.declared.answer.Outcome.{Outcome}
+use Rattle.plant.specs.Calls.{outcome_by}
+use Rattle.plant.proofs.Laws.Calls.{previewed}
+use Rattle.requests.proofs.calls.answer_entry.Goals as goal
+
+by_kind : (p : Plant) (r : Request) (x : Bool) {b : Bool} {o : Outcome} → b ≡ x → o ≡ outcome_by house p x r
+    → o ≡ outcome_by house p b r
+by_kind p r x e h = h ∙ ap (λ (y : Bool). outcome_by house p y r) (sym e)
+
+pub returns-then-preview : goal.returns-then-preview
+returns-then-preview c =
+    let seen = previewed house c.args.plant c.args.request c.answer_request-outcome.ensures.value in
+    record { value = by_kind _ _ _ c.if-preview.true seen.0; answer_value = seen.1 }
+
+pub returns-else-preview : goal.returns-else-preview
+returns-else-preview c =
+    let done = c.answer_request-outcome.ensures in
+    record { value = by_kind _ _ _ c.if-preview.false done.value; answer_value = done.answer_value }
