@@ -6,4 +6,7 @@ use Rattle.reading.proofs.bytes.find_byte.Goals as goal
 pub returns-then-s-from : goal.returns-then-s-from
 returns-then-s-from c =
     let a = c.args in
-    (omega (arith, up-end a.b a.s.now a.from (omega (arith, c.if-s-from.true))), λ h. absurd (omega (arith, h, c.if-s-from.true)))
+    record {
+      value = omega (arith, up-end a.b a.s.now a.from (omega (arith, c.if-s-from.true)));
+      upper_bound = λ h. absurd (omega (arith, h, c.if-s-from.true));
+    }

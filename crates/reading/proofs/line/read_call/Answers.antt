@@ -1,17 +1,20 @@
 -- `reading::line::read_call` meets its contract. Assumes nothing.
 use mathlib.Core.Path.{sym, ◌∙◌}
 use native.Mathlib.Omega.{arith}
-use Rattle.reading.proofs.Laws.Line.{call_none, call-form}
+use Rattle.reading.proofs.Laws.Line.{brackets-two, call_none, call-form}
 use Rattle.reading.proofs.line.read_call.Goals as goal
 
 pub overflow_sub-e : goal.overflow_sub-e
-overflow_sub-e c = omega (arith, two c)
+overflow_sub-e c = omega (arith, brackets-two _ (sym c.is_bracketed.ensures ∙ c.if-is_bracketed.true))
 
 pub slice_bounds-read_form-count : goal.slice_bounds-read_form-count
-slice_bounds-read_form-count c = omega (arith, two c)
+slice_bounds-read_form-count c = omega (arith, brackets-two _ (sym c.is_bracketed.ensures ∙ c.if-is_bracketed.true))
 
-pub TODO-slice-bounds-read-form-start : goal.TODO-slice-bounds-read-form-start
-TODO-slice-bounds-read-form-start c = omega (arith, two c)
+pub slice_bounds-read_form-end : goal.slice_bounds-read_form-end
+slice_bounds-read_form-end c = omega (arith, brackets-two _ (sym c.is_bracketed.ensures ∙ c.if-is_bracketed.true))
+
+pub slice_bounds-read_form-start : goal.slice_bounds-read_form-start
+slice_bounds-read_form-start c = omega (arith, brackets-two _ (sym c.is_bracketed.ensures ∙ c.if-is_bracketed.true))
 
 pub returns-then-is_bracketed : goal.returns-then-is_bracketed
 returns-then-is_bracketed c =

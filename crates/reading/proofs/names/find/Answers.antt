@@ -1,9 +1,10 @@
 -- `reading::names::find` meets its contract. Assumes nothing.
-use mathlib.Core.Path.{sym, ◌∙◌}
+use mathlib.Core.Path.{sym, ap, ◌∙◌}
 use Prim.Native.Nat.{◌-◌}
 use native.Mathlib.Omega.{arith}
+use Rattle.reading.specs.Text.{same_bytes}
 use Rattle.reading.specs.Names.{entries}
-use Rattle.reading.proofs.Laws.Names.{column-found, column-next, column-end, column-from, entries-length}
+use Rattle.reading.proofs.Laws.Names.{column-found, column-next, column-end, column-from, entries-length, entries_at}
 use Rattle.reading.proofs.names.find.Goals as goal
 
 pub loop-c-init : goal.loop-c-init
@@ -16,13 +17,13 @@ pub returns-then-is_entry : goal.returns-then-is_entry
 returns-then-is_entry c =
     let a = c.args in
     let n = entries-length a.count a.table.now in
-    sym (column-found _ _ c.loop-c.c c.loop-c.c (omega arith) (tested c c.if-is_entry.true)) ∙ c.loop-c.invariant
+    sym (column-found _ _ c.loop-c.c c.loop-c.c (omega arith) (ap (same_bytes a.s.now) (entries_at a.count a.table.now c.loop-c.c (omega arith)) ∙ sym c.is_entry.ensures ∙ c.if-is_entry.true)) ∙ c.loop-c.invariant
 
 pub loop-c-preserved : goal.loop-c-preserved
 loop-c-preserved c =
     let a = c.args in
     let n = entries-length a.count a.table.now in
-    sym (column-next _ _ c.loop-c.c c.loop-c.c (omega arith) (tested c c.if-is_entry.false)) ∙ c.loop-c.invariant
+    sym (column-next _ _ c.loop-c.c c.loop-c.c (omega arith) (ap (same_bytes a.s.now) (entries_at a.count a.table.now c.loop-c.c (omega arith)) ∙ sym c.is_entry.ensures ∙ c.if-is_entry.false)) ∙ c.loop-c.invariant
 
 pub returns : goal.returns
 returns c =

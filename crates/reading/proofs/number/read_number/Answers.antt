@@ -1,8 +1,10 @@
 -- `reading::number::read_number` meets its contract. Assumes nothing.
 use mathlib.Core.Path.{sym, ◌∙◌}
-use mathlib.Core.Logic.{⊎_elim, inl, inr}
+use mathlib.Core.Logic.{inl, inr}
 use Rattle.reading.proofs.Laws.Number.{number-empty, number-zero, number-led}
 use Rattle.reading.proofs.number.read_number.Goals as goal
+use Rattle.reading.proofs.number.read_number.Goals.{then-s-eq48+else-s-gt1, else-s-eq48}
+
 
 pub returns-then-s-eq0 : goal.returns-then-s-eq0
 returns-then-s-eq0 c = sym (number-empty _ c.if-s-eq0.true)
@@ -12,4 +14,4 @@ returns-then-s-gt1 c = sym (number-zero _ c.if-s-eq48.true c.if-s-gt1.true)
 
 pub returns : goal.returns
 returns c =
-    c.digits.ensures ∙ sym (number-led _ c.if-s-eq0.false (⊎_elim (λ w. inr w.1.left) (λ w. inl w.left) c.if-s-eq48.branch))
+    c.digits.ensures ∙ sym (number-led _ c.if-s-eq0.false (elim c.if-s-eq48.branch [ then-s-eq48+else-s-gt1 w ↦ inr w.if-s-gt1.false | else-s-eq48 w ↦ inl w.if-s-eq48.false ]))

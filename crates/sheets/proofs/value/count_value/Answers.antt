@@ -1,6 +1,7 @@
 -- `sheets::value::count_value` meets its contract. Assumes nothing.
-use mathlib.Core.Path.{◌∙◌}
+use mathlib.Core.Path.{subst, sym, ◌∙◌}
 use native.Mathlib.Omega.{arith}
+use lib.Dec.{T}
 use lib.Ieee.{binary32, fits, of_bits}
 use lib.Ieee.Bits.{to_bits-lt}
 use Rattle.sheets.proofs.Laws.Value.{bits-counted, bits-uncounted, test-uncounted, passed-number}
@@ -11,19 +12,19 @@ unfolding of_bits
 float_to_bits-bits c = passed-number c.args.x c.if-x.true
 
 pub overflow_cast-bits : goal.overflow_cast-bits
-overflow_cast-bits c = record { fits = omega (arith, to_bits-lt binary32 c.args.x (held c)) }
+overflow_cast-bits c = record { fits = omega (arith, to_bits-lt binary32 c.args.x (subst T (sym c.well_formed.0.1) tt)) }
 
 pub returns-then-field-lt255 : goal.returns-then-field-lt255
 unfolding of_bits
 returns-then-field-lt255 c =
     let a = c.args in
     c.count_fields.ensures
-    ∙ bits-counted a.x a.scale a.ceiling (held c) c.if-x.true c.if-field-lt255.true
+    ∙ bits-counted a.x a.scale a.ceiling (subst T (sym c.well_formed.0.1) tt) c.if-x.true c.if-field-lt255.true
 
 pub returns-else-field-lt255 : goal.returns-else-field-lt255
 returns-else-field-lt255 c =
     let a = c.args in
-    bits-uncounted a.x a.scale a.ceiling (held c) c.if-field-lt255.false
+    bits-uncounted a.x a.scale a.ceiling (subst T (sym c.well_formed.0.1) tt) c.if-field-lt255.false
 
 pub returns-else-x : goal.returns-else-x
 unfolding of_bits
