@@ -12,7 +12,6 @@ use Rattle.std.specs.Prelude.{Bool, true, false, cond, not, ◌&&◌, List, [], 
 use Rattle.vectors.specs.Units.{milligrams, ticks}
 use Rattle.plant.specs.declared.answer.Answer.{Answer}
 use Rattle.plant.specs.declared.answer.Answer.TheVariants.{Refused, Received, Fed, Settled, Returned, Released, Recycled}
-use Rattle.plant.specs.declared.answer.Told.{Told}
 use Rattle.plant.specs.Answer.{told}
 use Rattle.reading.specs.Text.{Word, ◌means◌, look_up, up_to, space, closing}
 use Rattle.reading.specs.Number.{is_digit}

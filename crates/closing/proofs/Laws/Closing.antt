@@ -5,19 +5,17 @@
 --   close-is, close-sent   the same of close
 --   Fitting           what there is to be closed: the three gaps are none
 --   close-law, none-law, only-law, gap-law   CloseLaw, NoneLaw, OnlyLaw, GapLaw
-use mathlib.Core.Bool.{true, ◌&&◌}
+use mathlib.Core.Bool.{true}
 use mathlib.Core.List.{List}
 use mathlib.Core.Path.{◌≡◌, refl, sym, ap, subst, ◌∙◌}
 use Prim.Native.Nat.{ℕ, ◌+◌, ◌-◌, ◌≤◌}
 use native.Mathlib.Omega.{arith}
-use lib.Dec.{eqb}
-use lib.ListN.{length}
 use borrow.Author.Rules.{rules}
-use borrow.Author.Tests.{eq-eqb, eqb-true}
+use borrow.Author.Tests.{eqb-true}
 use Rattle.vectors.specs.declared.figures.Figures.{Figures}
 use Rattle.vectors.specs.declared.units.Milligrams.{Milligrams}
-use Rattle.vectors.specs.Columns.{digester, digester_ceilings, cod_ceiling, tick_ceiling, within, Below}
-use Rattle.vectors.specs.Totals.{digester_cod, digester_tkn, digester_oxygen, digester_nitrate}
+use Rattle.vectors.specs.Columns.{digester, digester_ceilings, cod_ceiling, tick_ceiling, within}
+use Rattle.vectors.specs.Totals.{digester_cod, digester_tkn}
 use Rattle.vectors.specs.Units.{milligrams}
 use Rattle.vectors.proofs.Laws.Columns.{within-column, within-below, below-within, digester-columns}
 use Rattle.plant.specs.declared.record.Plant.{Plant}

@@ -15,7 +15,6 @@ use native.Mathlib.Numerals.{add-one}
 use native.Mathlib.Omega.{arith}
 use lib.ListN.{get_or, take-append-drop, length, take, drop, set, length-append, length-drop}
 use lib.Seq.{take-suc, take_all, drop-drop, length-take-le, set_split, take_at, drop_at}
-use lib.Dec.{leb}
 use mathlib.Core.Bool.{cond}
 use borrow.Author.Tests.{le-leb, lt-leb}
 use Rattle.writing.specs.Buffer.{put_at, Put, fitted, Answered}

@@ -9,7 +9,7 @@
 --   one-held      every held line
 use mathlib.Core.Bool.{Bool, true, false, cond, not, ◌&&◌}
 use mathlib.Core.List.{List, [], ◌∷◌, ◌++◌}
-use mathlib.Core.Path.{◌≡◌, refl, ap}
+use mathlib.Core.Path.{◌≡◌, refl}
 use Prim.Native.Nat.{ℕ, zero, suc, ◌+◌, ◌/◌, ◌%◌}
 use native.Mathlib.Omega.{arith}
 use lib.Dec.{ltb, eqb}
@@ -17,7 +17,6 @@ use lib.ListN.{get_or}
 use borrow.Author.Tests.{ne_eqb}
 use Rattle.io.specs.Digits.{last_digits, hex_digit_ascii}
 use Rattle.vectors.proofs.Laws.Columns.{both_true}
-use Rattle.plant.specs.declared.answer.Answer.{Answer}
 use Rattle.plant.specs.declared.answer.Answer.TheVariants.{Refused, Received, Fed, Settled, Returned, Released, Recycled}
 use Rattle.reading.specs.declared.names.Vector.TheVariants.{Sludge}
 use Rattle.reading.specs.Text.{ascii, newline, one_line}

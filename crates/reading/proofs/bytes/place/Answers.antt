@@ -1,5 +1,5 @@
 -- `reading::bytes::place` meets its contract. Assumes nothing.
-use Prim.Native.Nat.{◌+◌, ◌-◌}
+use Prim.Native.Nat.{◌+◌}
 use native.Mathlib.Omega.{arith}
 use Rattle.reading.proofs.Laws.Text.{up-here, up-past}
 use Rattle.reading.proofs.bytes.place.Goals as goal

@@ -1,5 +1,4 @@
 -- `reading::bytes::place_near` meets its contract. Assumes nothing.
-use Prim.Native.Nat.{◌-◌}
 use native.Mathlib.Omega.{arith}
 use Rattle.reading.proofs.Laws.Text.{up-here, up_next, up-end}
 use Rattle.reading.proofs.bytes.place_near.Goals as goal

@@ -1,6 +1,5 @@
 -- `reading::bytes::same` meets its contract. Assumes nothing.
 use mathlib.Core.Path.{sym, ◌∙◌}
-use Prim.Native.Nat.{◌-◌}
 use native.Mathlib.Omega.{arith}
 use Rattle.reading.proofs.Laws.Text.{same-lengths, same_step, same_not, same_end}
 use Rattle.reading.proofs.bytes.same.Goals as goal

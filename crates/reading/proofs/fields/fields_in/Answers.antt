@@ -1,7 +1,7 @@
 -- `reading::fields::fields_in` meets its contract. Assumes nothing.
-use mathlib.Core.Bool.{true, false}
+use mathlib.Core.Bool.{false}
 use mathlib.Core.Path.{refl, sym, ap, ap₂, ◌∙◌}
-use Prim.Native.Nat.{ℕ, ◌+◌, ◌-◌}
+use Prim.Native.Nat.{ℕ, ◌+◌}
 use lib.ListN.{drop, get_or}
 use native.Mathlib.Omega.{arith}
 use Rattle.reading.specs.declared.fields.Fields.{Fields}

@@ -1,8 +1,7 @@
 -- `reading::line::read_line` meets its contract. Assumes nothing.
 use mathlib.Core.Bool.{Bool, cond}
-use mathlib.Core.List.{List}
 use mathlib.Core.Path.{◌≡◌, sym, ap, ◌∙◌}
-use Prim.Native.Nat.{ℕ, ◌-◌}
+use Prim.Native.Nat.{◌-◌}
 use lib.ListN.{take, drop}
 use native.Mathlib.Omega.{arith}
 use Rattle.reading.specs.Form.{read_fields}
@@ -18,32 +17,36 @@ overflow_sub-to c = omega (arith, preview-ten _ (sym c.is_preview-preview.ensure
 pub slice_bounds-read_call-count : goal.slice_bounds-read_call-count
 slice_bounds-read_call-count c =
     elim c.if-preview.branch [
-      then-preview w ↦ omega (arith, preview-ten _ (sym c.is_preview-preview.ensures ∙ w.if-preview.true))
-    | else-preview w ↦ omega arith ]
+      | then-preview w ↦ omega (arith, preview-ten _ (sym c.is_preview-preview.ensures ∙ w.if-preview.true))
+      | else-preview w ↦ omega arith
+    ]
 
 pub slice_bounds-read_call-start : goal.slice_bounds-read_call-start
 slice_bounds-read_call-start c =
     elim c.if-preview.branch [
-      then-preview w ↦ omega (arith, preview-ten _ (sym c.is_preview-preview.ensures ∙ w.if-preview.true))
-    | else-preview w ↦ omega arith ]
+      | then-preview w ↦ omega (arith, preview-ten _ (sym c.is_preview-preview.ensures ∙ w.if-preview.true))
+      | else-preview w ↦ omega arith
+    ]
 
 pub slice_bounds-read_call-end : goal.slice_bounds-read_call-end
 slice_bounds-read_call-end c =
     elim c.if-preview.branch [
-      then-preview w ↦ omega (arith, preview-ten _ (sym c.is_preview-preview.ensures ∙ w.if-preview.true))
-    | else-preview w ↦ omega arith ]
+      | then-preview w ↦ omega (arith, preview-ten _ (sym c.is_preview-preview.ensures ∙ w.if-preview.true))
+      | else-preview w ↦ omega arith
+    ]
 
 pub returns-then-preview-2 : goal.returns-then-preview-2
 returns-then-preview-2 c =
     let s = c.args.s.now in
     -- what is between the bounds: a preview's form, or the line
     let between : take (c.if-preview.to - c.if-preview.from) (drop c.if-preview.from s) ≡ cond c.is_preview-preview.result (form_in s) s
-        = elim c.if-preview.branch [
-          then-preview w ↦
-            (λ i. take (w.to-is i - w.from-is i) (drop (w.from-is i) s)) ∙ ap (λ (b : Bool). cond b (form_in s) s) (sym w.if-preview.true)
-        | else-preview w ↦
-            (λ i. take (w.to-is i - w.from-is i) (drop (w.from-is i) s)) ∙ rest_of s 0
-            ∙ ap (λ (b : Bool). cond b (form_in s) s) (sym w.if-preview.false) ] in
+    = elim c.if-preview.branch [
+      | then-preview w ↦
+          (λ i. take (w.to-is i - w.from-is i) (drop (w.from-is i) s)) ∙ ap (λ (b : Bool). cond b (form_in s) s) (sym w.if-preview.true)
+      | else-preview w ↦
+          (λ i. take (w.to-is i - w.from-is i) (drop (w.from-is i) s)) ∙ rest_of s 0
+          ∙ ap (λ (b : Bool). cond b (form_in s) s) (sym w.if-preview.false)
+    ] in
     c.preview_line.ensures
     ∙ ap preview_line
     (c.read_call-l.ensures
@@ -54,12 +57,13 @@ pub returns : goal.returns
 returns c =
     let s = c.args.s.now in
     let between : take (c.if-preview.to - c.if-preview.from) (drop c.if-preview.from s) ≡ cond c.is_preview-preview.result (form_in s) s
-        = elim c.if-preview.branch [
-          then-preview w ↦
-            (λ i. take (w.to-is i - w.from-is i) (drop (w.from-is i) s)) ∙ ap (λ (b : Bool). cond b (form_in s) s) (sym w.if-preview.true)
-        | else-preview w ↦
-            (λ i. take (w.to-is i - w.from-is i) (drop (w.from-is i) s)) ∙ rest_of s 0
-            ∙ ap (λ (b : Bool). cond b (form_in s) s) (sym w.if-preview.false) ] in
+    = elim c.if-preview.branch [
+      | then-preview w ↦
+          (λ i. take (w.to-is i - w.from-is i) (drop (w.from-is i) s)) ∙ ap (λ (b : Bool). cond b (form_in s) s) (sym w.if-preview.true)
+      | else-preview w ↦
+          (λ i. take (w.to-is i - w.from-is i) (drop (w.from-is i) s)) ∙ rest_of s 0
+          ∙ ap (λ (b : Bool). cond b (form_in s) s) (sym w.if-preview.false)
+    ] in
     c.read_call-l.ensures
     ∙ ap (call_by read_fields) (between ∙ ap (λ (b : Bool). cond b (form_in s) s) c.if-preview-2.false)
     ∙ line-call s (sym c.is_preview-preview.ensures ∙ c.if-preview-2.false)

@@ -1,6 +1,5 @@
 -- `reading::names::find` meets its contract. Assumes nothing.
 use mathlib.Core.Path.{sym, ap, ◌∙◌}
-use Prim.Native.Nat.{◌-◌}
 use native.Mathlib.Omega.{arith}
 use Rattle.reading.specs.Text.{same_bytes}
 use Rattle.reading.specs.Names.{entries}

@@ -1,6 +1,5 @@
 -- `reading::number::digits` meets its contract. Assumes nothing.
 use mathlib.Core.Path.{sym, ◌∙◌}
-use Prim.Native.Nat.{◌-◌}
 use native.Mathlib.Omega.{arith}
 use Rattle.reading.proofs.Laws.Number.{low-at, high-at, large-at, digit_at, digits-end}
 use Rattle.reading.proofs.number.digits.Goals as goal

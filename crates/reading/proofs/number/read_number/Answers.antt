@@ -5,7 +5,6 @@ use Rattle.reading.proofs.Laws.Number.{number-empty, number-zero, number-led}
 use Rattle.reading.proofs.number.read_number.Goals as goal
 use Rattle.reading.proofs.number.read_number.Goals.{then-s-eq48+else-s-gt1, else-s-eq48}
 
-
 pub returns-then-s-eq0 : goal.returns-then-s-eq0
 returns-then-s-eq0 c = sym (number-empty _ c.if-s-eq0.true)
 

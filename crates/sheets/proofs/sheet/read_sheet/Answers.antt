@@ -1,6 +1,5 @@
 -- `sheets::sheet::read_sheet` meets its contract. Assumes nothing.
 use native.Mathlib.Omega.{arith}
-use Prim.Native.Nat.{◌-◌}
 use Rattle.sheets.proofs.Laws.Sheet.{scales-le, read_none, read-few, read_next, read-stop, read-end}
 use borrow.Author.Rules.{rules}
 use Rattle.sheets.proofs.sheet.read_sheet.Goals as goal

@@ -2,7 +2,7 @@
 use mathlib.Core.Path.{subst, sym, ◌∙◌}
 use native.Mathlib.Omega.{arith}
 use lib.Dec.{T}
-use lib.Ieee.{binary32, fits, of_bits}
+use lib.Ieee.{binary32, of_bits}
 use lib.Ieee.Bits.{to_bits-lt}
 use Rattle.sheets.proofs.Laws.Value.{bits-counted, bits-uncounted, test-uncounted, passed-number}
 use Rattle.sheets.proofs.value.count_value.Goals as goal
