@@ -1,0 +1,11 @@
+-- `lines::blocks::gather_answer` meets its contract. Assumes nothing.
+use Rattle.lines.proofs.Laws.Blocks.{answer-gathered}
+use native.Mathlib.Omega.{arith}
+use Rattle.writing.proofs.Laws.Buffer.{put-room}
+use Rattle.lines.proofs.blocks.gather_answer.Goals as goal
+
+pub returns : goal.returns
+returns c =
+    let a = c.args in
+    let g = answer-gathered a.out.now a.at c.requires c.answer_line-a.ensures (put-room _ _ (omega arith) c.put_fitting-k.ensures) in
+    record { plant_value = g.0; at_bound = g.1 }

@@ -1,0 +1,10 @@
+-- `lines::blocks::gather_held` meets its contract. Assumes nothing.
+use native.Mathlib.Omega.{arith}
+use Rattle.writing.proofs.Laws.Buffer.{put-room}
+use Rattle.lines.proofs.Laws.Blocks.{held-gathered}
+use Rattle.lines.proofs.blocks.gather_held.Goals as goal
+
+pub returns : goal.returns
+returns c =
+    let g = held-gathered c.args.out.now c.args.at c.requires c.held_line-h.ensures (put-room _ _ (omega arith) c.put_fitting.ensures) in
+    record { put = g.0; upper_bound = g.1 }

@@ -1,0 +1,28 @@
+-- `lines::blocks::gather_last` meets its contract. Assumes nothing.
+use mathlib.Core.Path.{sym}
+use native.Mathlib.Omega.{arith}
+use lib.Seq.{length-take-le}
+use Rattle.vectors.specs.Figures.{house}
+use Rattle.lines.proofs.Laws.Blocks.{last_none, last_some}
+use Rattle.lines.proofs.blocks.gather_last.Goals as goal
+
+pub returns-then-held-eq0 : goal.returns-then-held-eq0
+returns-then-held-eq0 c =
+    let a = c.args in
+    record {
+      plant_value = last_none house a.p.plant a.line.now a.out.now a.p.at a.p.held c.if-held-eq0.true;
+      at_bound = omega arith;
+    }
+
+pub slice_bounds-gather_answer-end : goal.slice_bounds-gather_answer-end
+slice_bounds-gather_answer-end c = sym (length-take-le _ _ c.requires.0)
+
+pub returns : goal.returns
+returns c =
+    let a = c.args in
+    let g = c.gather_answer in
+    let some = c.if-held-eq0.false in
+    record {
+      plant_value = last_some house a.p.plant a.line.now a.out.now a.p.at a.p.held g.result some c.requires.0 g.ensures.plant_value;
+      at_bound = g.ensures.at_bound;
+    }
