@@ -29,7 +29,7 @@ use Rattle.lines.specs.declared.asking.LineOutcome.{LineOutcome}
 use Rattle.lines.specs.declared.asking.HeldOutcome.{HeldOutcome}
 use Rattle.lines.specs.declared.blocks.Place.{Place}
 use Rattle.lines.specs.declared.blocks.Gathered.{Gathered}
-use Rattle.reading.specs.Text.{newline, up_to}
+use Rattle.reading.specs.Text.{newline}
 use Rattle.writing.specs.Buffer.{put_at, Put, Answered}
 use Rattle.writing.specs.Answer.{held_text, fitting}
 use Rattle.lines.specs.Asking.{outcome_text, line_text, LineAnswered, HeldAnswered}

@@ -18,8 +18,7 @@ use lib.Seq.{take_all, take-add}
 use Rattle.vectors.specs.declared.figures.Figures.{Figures}
 use Rattle.lines.specs.declared.blocks.Place.{Place}
 use Rattle.reading.specs.Text.{newline}
-use Rattle.plant.specs.declared.record.Plant.{Plant}
-use Rattle.lines.specs.Session.{State, start, core, kept, run, ended, answer_of, joined, run_blocks, said, written, WrittenLaw}
+use Rattle.lines.specs.Session.{State, start, core, kept, run, ended, run_blocks, said, written, WrittenLaw}
 use Rattle.lines.specs.Blocks.{Desk, place_at, block_of, state_of, carried}
 use Rattle.lines.proofs.Laws.Session.{run-append, printed-whole}
 use Rattle.lines.proofs.Laws.Run.{block-state, block-grows}

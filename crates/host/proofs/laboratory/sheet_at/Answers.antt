@@ -1,6 +1,5 @@
 -- `host::laboratory::sheet_at` meets its contract. Assumes nothing.
 use mathlib.Core.Path.{◌∙◌}
-use Prim.Native.Nat.{◌-◌}
 use Rattle.vectors.proofs.Laws.Columns.{filled_none, filled_more, filled-all}
 use Rattle.sheets.specs.declared.finding.Finding.TheVariants.{NotSampled}
 use Rattle.host.proofs.Laws.Sheet.{sheet-length, sheet-column}

@@ -1,7 +1,7 @@
 -- `host::record::copy` meets its contract. Assumes nothing.
 use mathlib.Core.Path.{refl, ap, ◌∙◌}
 use mathlib.Core.List.{List}
-use Prim.Native.Nat.{ℕ, ◌+◌, ◌-◌}
+use Prim.Native.Nat.{ℕ, ◌+◌}
 use lib.ListN.{take, drop, get_or, set, length-set}
 use native.Mathlib.Omega.{arith}
 use Rattle.writing.proofs.Laws.Buffer.{put-none, put_all}

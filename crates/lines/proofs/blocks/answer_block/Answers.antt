@@ -1,7 +1,6 @@
 -- `lines::blocks::answer_block` meets its contract. Assumes nothing.
 use mathlib.Core.Path.{refl, sym, ap, ◌∙◌}
 use native.Mathlib.Omega.{arith}
-use Prim.Native.Nat.{◌-◌}
 use Rattle.vectors.specs.Figures.{house}
 use Rattle.lines.specs.Blocks.{Desk, desk}
 use Rattle.lines.proofs.Laws.Run.{step-bounds, block-step, block-done}

@@ -31,6 +31,6 @@ returns-then-has_room c =
 
 pub returns : goal.returns
 returns c = record {
-      out_after = end-unfit _ _ _ _ (sym c.has_room.ensures ∙ c.if-has_room.false);
-      at_in_bounds = λ b. b;
-    }
+  out_after = end-unfit _ _ _ _ (sym c.has_room.ensures ∙ c.if-has_room.false);
+  at_in_bounds = λ b. b;
+}

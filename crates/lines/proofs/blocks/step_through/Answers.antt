@@ -6,7 +6,6 @@ use Rattle.lines.specs.Blocks.{room, line_in}
 use Rattle.vectors.specs.Figures.{house}
 use Rattle.writing.proofs.Laws.Buffer.{put_same}
 use Rattle.lines.proofs.Laws.Blocks.{part-line, room_fits, through-newline, through-end}
-use borrow.Author.Rules.{rules}
 use Rattle.lines.proofs.blocks.step_through.Goals as goal
 
 pub slice_bounds-gather_answer-end : goal.slice_bounds-gather_answer-end
