@@ -12,7 +12,7 @@ fn main() {
     let folder = Path::new(&package).join("../target/staticlib");
     let archive = folder.join("libhost.a");
     println!("cargo:rerun-if-changed={}", archive.display());
-    assert!(archive.exists(), "{} is missing: rt staticlib host makes it", archive.display());
+    assert!(archive.exists(), "{} is missing: host/build makes it", archive.display());
     println!("cargo:rustc-link-search=native={}", folder.display());
     println!("cargo:rustc-link-lib=static=host");
 }
