@@ -1,15 +1,11 @@
 // A short wait.
 #![tactic(auto)]
 
+use std::rt::Clock;
+use std::thread;
+use std::time::Duration;
+
 // Waits for about a millisecond.
-pub fn short_sleep() {
-    let asked = libc::types::timespec {
-        tv_sec: 0,
-        tv_nsec: 1000000,
-    };
-    let mut left = libc::types::timespec {
-        tv_sec: 0,
-        tv_nsec: 0,
-    };
-    libc::nanosleep(&asked, &mut left);
+pub fn short_sleep(clock: &impl Clock) {
+    thread::sleep(clock, Duration::from_millis(1));
 }

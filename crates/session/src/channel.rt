@@ -2,41 +2,44 @@
 // is told on standard error.
 ghost use Rattle.std.specs.Prelude.{true, ◌≡◌, ◌≤◌, length};
 
-use libc::{EAGAIN, EINTR, STDIN_FILENO, STDOUT_FILENO};
+use std::io::{Error, ErrorKind, Read};
+use std::rt::Clock;
 
 // What a read gave: so many bytes, none at the input's end; or it failed.
-#[derive(Clone, Copy)]
+#[derive(Drop)]
 pub struct Got {
     pub count: usize,
     pub failed: bool,
 }
 
 // One read into the start of the buffer.
-pub fn read_some(input: &mut [u8]) -> Got
+pub fn read_some<R: Input + Eprint + Alloc + Clock>(rt: &R, input: &mut [u8]) -> Got
     ensures { result.count ≤ length input.new }
 {
-    let mut turns = u64::MAX;
-    while turns > 0 {
-        let got = libc::read(STDIN_FILENO, input);
-        if got >= 0 {
-            return Got {
-                count: io::count(got, input),
-                failed: false,
-            };
+    let mut reader = rt.reader();
+    for _ in 0..u64::MAX {
+        match reader.read(input) {
+            Ok(count) => {
+                return Got {
+                    count,
+                    failed: false,
+                };
+            }
+            Err(e) => {
+                if !is_passing(rt, &e) {
+                    return failed_read(rt, &e);
+                }
+            }
         }
-        if !is_passing() {
-            return failed_read();
-        }
-        turns -= 1;
     }
-    failed_read()
+    failed_read(rt, &Error::from(ErrorKind::TimedOut))
 }
 
 // A read that failed, which is told on standard error.
-fn failed_read() -> Got
+fn failed_read<R: Eprint + Alloc>(rt: &R, e: &Error) -> Got
     ensures { (result.count ≡ 0) × (result.failed ≡ true) }
 {
-    os::fail(b"sludgeline: standard input");
+    tell(rt, "standard input", e);
     Got {
         count: 0,
         failed: true,
@@ -44,24 +47,22 @@ fn failed_read() -> Got
 }
 
 // Whether the call that failed was interrupted or would block: after a short sleep it is tried again.
-fn is_passing() -> bool {
-    let error = os::errno();
-    if error != EINTR {
-        if error != EAGAIN {
-            return false;
+fn is_passing(clock: &impl Clock, e: &Error) -> bool {
+    match e.kind() {
+        ErrorKind::Interrupted | ErrorKind::WouldBlock => {
+            pause::short_sleep(clock);
+            true
         }
+        _ => false,
     }
-    pause::short_sleep();
-    true
 }
 
 // Writes all of the bytes: whether that was done.
-pub fn write_all(s: &[u8]) -> bool {
+pub fn write_all<R: Print + Eprint + Alloc + Clock>(rt: &R, s: &[u8]) -> bool {
     let mut done = 0;
     while done < s.len() {
-        let n = write_some(&s[done..]);
+        let n = write_some(rt, &s[done..]);
         if n == 0 {
-            os::fail(b"sludgeline: standard output");
             return false;
         }
         done += n;
@@ -69,20 +70,53 @@ pub fn write_all(s: &[u8]) -> bool {
     true
 }
 
-// One write, and how many of the bytes it took: none where it failed.
-fn write_some(s: &[u8]) -> usize
+// One write, and how many of the bytes it took: none where it failed, which is told on standard error.
+fn write_some<R: Print + Eprint + Alloc + Clock>(rt: &R, s: &[u8]) -> usize
     ensures { result ≤ length s.now }
 {
-    let mut turns = u64::MAX;
-    while turns > 0 {
-        let put = libc::write(STDOUT_FILENO, s);
-        if put >= 0 {
-            return io::count(put, s);
+    for _ in 0..u64::MAX {
+        match rt.write_some(s) {
+            Ok(0) => return failed_write(rt, &Error::from(ErrorKind::WriteZero)),
+            Ok(n) => return n,
+            Err(e) => {
+                if !is_passing(rt, &e) {
+                    return failed_write(rt, &e);
+                }
+            }
         }
-        if !is_passing() {
-            return 0;
-        }
-        turns -= 1;
     }
+    failed_write(rt, &Error::from(ErrorKind::TimedOut))
+}
+
+// A write that failed, which is told on standard error.
+fn failed_write<R: Eprint + Alloc>(rt: &R, e: &Error) -> usize
+    ensures { result ≡ 0 }
+{
+    tell(rt, "standard output", e);
     0
+}
+
+// What failed, and what the system says of it, as C's perror writes it.
+fn tell<R: Eprint + Alloc>(rt: &R, what: &str, e: &Error) {
+    match format!(in rt.alloc(); "{e}") {
+        Ok(text) => tell_words(rt, what, without_number(text.as_str())),
+        Err(_) => tell_with_number(rt, what, e),
+    }
+}
+
+// With no memory to take the number away: as std writes it.
+fn tell_with_number(rt: &impl Eprint, what: &str, e: &Error) {
+    let _ = eprintln!(rt; "sludgeline: {what}: {e}");
+}
+
+// The system's words alone: std puts the error's number behind them.
+fn without_number(text: &str) -> &str {
+    match text.split_once(" (os error ") {
+        Some((words, _)) => words,
+        None => text,
+    }
+}
+
+fn tell_words(rt: &impl Eprint, what: &str, words: &str) {
+    let _ = eprintln!(rt; "sludgeline: {what}: {words}");
 }

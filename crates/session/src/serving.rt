@@ -1,47 +1,59 @@
 // What the program sludgeline does: a conversation, or what its argument asks.
 use crate::channel::write_all;
 use crate::talking::talk;
-use libc::STDERR_FILENO;
+use std::env::FillError;
+use std::rt::{Clock, Env};
 
 // With no argument a conversation. Of one word, --help and --version are known.
-pub fn serve() {
-    if os::arg_count() <= 1 {
-        talk();
+pub fn serve<R: Env + Input + Print + Eprint + Alloc + Clock>(rt: &R) {
+    if !has_word(rt, 1) {
+        talk(rt);
         return;
     }
-    answer_word();
+    answer_word(rt);
 }
 
-fn answer_word() {
+// Whether the program was started with a word at this place. Its own name is at 0.
+fn has_word(rt: &impl Env, place: usize) -> bool {
     let mut word = [0u8; 16];
-    let n = os::arg(1, &mut word);
-    if os::arg_count() == 2 {
-        if check::same(&word[..n], b"--help") {
-            help();
+    !matches!(rt.arg(place, &mut word), Err(FillError::NotPresent))
+}
+
+fn answer_word<R: Env + Print + Eprint + Alloc + Clock>(rt: &R) {
+    if !has_word(rt, 2) {
+        if is_word(rt, b"--help") {
+            help(rt);
             return;
         }
-        if check::same(&word[..n], b"--version") {
-            write_all(b"sludgeline 0.11.0\n");
+        if is_word(rt, b"--version") {
+            write_all(rt, b"sludgeline 0.11.0\n");
             return;
         }
     }
-    io::write_all(
-        STDERR_FILENO,
-        b"sludgeline: unknown argument (--help tells what there is)\n",
-    );
+    let _ = eprintln!(rt; "sludgeline: unknown argument (--help tells what there is)");
+}
+
+// Whether the first word is this one. A longer word than the buffer is none that is known.
+fn is_word(rt: &impl Env, known: &[u8]) -> bool {
+    let mut word = [0u8; 16];
+    match rt.arg(1, &mut word) {
+        Ok(n) => &word[..n] == known,
+        Err(_) => false,
+    }
 }
 
 // What the program is, the forms and the refusals, on one screen. A write that fails ends it.
-fn help() {
-    if help_forms() {
-        if help_columns() {
-            help_refusals();
+fn help<R: Print + Eprint + Alloc + Clock>(rt: &R) {
+    if help_forms(rt) {
+        if help_columns(rt) {
+            help_refusals(rt);
         }
     }
 }
 
-fn help_forms() -> bool {
+fn help_forms<R: Print + Eprint + Alloc + Clock>(rt: &R) -> bool {
     write_all(
+        rt,
         b"sludgeline: the link between ASM1 and ADM1 on one plant record, a call a line\n\
 usage: sludgeline < CALLS > ANSWERS    or --help, or --version\n\
 (receive F..)   an ASM1 vector into the sludge tank\n\
@@ -54,8 +66,9 @@ usage: sludgeline < CALLS > ANSWERS    or --help, or --version\n\
     )
 }
 
-fn help_columns() -> bool {
+fn help_columns<R: Print + Eprint + Alloc + Clock>(rt: &R) -> bool {
     write_all(
+        rt,
         b"F is (name N), in the order below; a missing column is zero. COD and oxygen in\n\
 mg; sno snh snd xnd sin cn in ticks of 0.0001 mg N; salk sic in mmol.\n\
 receive: si ss xi xs xbh xba xp so sno snh snd xnd salk\n\
@@ -64,8 +77,9 @@ settle: si ssu saa sfa sva sbu spro sac sh2 sch4 xi xc xch xpr xli xsu xaa xfa\n
     )
 }
 
-fn help_refusals() -> bool {
+fn help_refusals<R: Print + Eprint + Alloc + Clock>(rt: &R) -> bool {
     write_all(
+        rt,
         b"Each line is answered (ok ..), or (no N) and nothing is changed, where\n\
 \x201 a column of the record is above its ceiling\n\
 \x202 k is not 1 to 1000            3 a column handed over is above its ceiling\n\

@@ -1,6 +1,6 @@
 // The program's session on every kind of line that is no form, beside its neighbours that are; one line has 70,000 bytes.
 #![tactic(auto)]
 
-fn main() {
-    session::serve();
+fn main(rt: HostRuntime) {
+    session::serve(&rt);
 }

@@ -3,6 +3,6 @@
 // answers and the held line show which were read, and in the second block releases in a row answer more than twice what the buffer holds.
 #![tactic(auto)]
 
-fn main() {
-    session::serve();
+fn main(rt: HostRuntime) {
+    session::serve(&rt);
 }

@@ -1,6 +1,6 @@
 // The program on --help: what it is, the forms and the refusals.
 #![tactic(auto)]
 
-fn main() {
-    session::serve();
+fn main(rt: HostRuntime) {
+    session::serve(&rt);
 }

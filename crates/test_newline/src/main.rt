@@ -1,6 +1,6 @@
 // The program's session on one newline: an empty line is no form.
 #![tactic(auto)]
 
-fn main() {
-    session::serve();
+fn main(rt: HostRuntime) {
+    session::serve(&rt);
 }

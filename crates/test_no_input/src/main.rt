@@ -1,6 +1,6 @@
 // The program's session on no input at all.
 #![tactic(auto)]
 
-fn main() {
-    session::serve();
+fn main(rt: HostRuntime) {
+    session::serve(&rt);
 }

@@ -1,6 +1,6 @@
 // The program on an input whose last line lacks its newline: a receive, which the held line shows.
 #![tactic(auto)]
 
-fn main() {
-    session::serve();
+fn main(rt: HostRuntime) {
+    session::serve(&rt);
 }

@@ -1,6 +1,6 @@
 // The program on --version.
 #![tactic(auto)]
 
-fn main() {
-    session::serve();
+fn main(rt: HostRuntime) {
+    session::serve(&rt);
 }
