@@ -1,8 +1,9 @@
 // Standard input and output. A read or a write that is interrupted or would block is tried again after a short sleep; any other failure
 // is told on standard error.
-ghost use Rattle.std.specs.Prelude.{true, ◌≡◌, ◌≤◌, length};
+ghost use Rattle.std.specs.Prelude.{true, false, ◌≡◌, ◌≤◌, ◌<◌, length, take};
+ghost use Rattle.std.specs.Io.KnownBytes.{Appends, Consumes, Keeps, IsAtEnd};
 
-use std::io::{Error, ErrorKind, Read};
+use std::io::{Error, ErrorKind, Read, Write};
 use std::rt::Clock;
 
 // What a read gave: so many bytes, none at the input's end; or it failed.
@@ -13,12 +14,14 @@ pub struct Got {
 }
 
 // One read into the start of the buffer.
-pub fn read_some<R: Input + Eprint + Alloc + Clock>(rt: &R, input: &mut [u8]) -> Got
-    ensures { result.count ≤ length input.new }
+pub fn read_some<I: Read, R: Eprint + Alloc + Clock>(rt: &R, from: &mut I, input: &mut [u8]) -> Got
+    ensures count_bound { result.count ≤ length input.new }
+    ensures bytes { result.failed ≡ false → Consumes (I.remaining from.old) (I.remaining from.new) (take result.count input.new) }
+    ensures end { result.failed ≡ false → result.count ≡ 0 → 0 < length input.old → IsAtEnd (I.remaining from.new) }
+    ensures failed { result.failed ≡ true → Keeps (I.remaining from.old) (I.remaining from.new) }
 {
-    let mut reader = rt.reader();
     for _ in 0..u64::MAX {
-        match reader.read(input) {
+        match from.read(input) {
             Ok(count) => {
                 return Got {
                     count,
@@ -58,10 +61,12 @@ fn is_passing(clock: &impl Clock, e: &Error) -> bool {
 }
 
 // Writes all of the bytes: whether that was done.
-pub fn write_all<R: Print + Eprint + Alloc + Clock>(rt: &R, s: &[u8]) -> bool {
+pub fn write_all<O: Write, R: Eprint + Alloc + Clock>(rt: &R, to: &mut O, s: &[u8]) -> bool
+    ensures { result ≡ true → Appends (O.contents to.old) (O.contents to.new) s.now }
+{
     let mut done = 0;
     while done < s.len() {
-        let n = write_some(rt, &s[done..]);
+        let n = write_some(rt, to, &s[done..]);
         if n == 0 {
             return false;
         }
@@ -71,11 +76,12 @@ pub fn write_all<R: Print + Eprint + Alloc + Clock>(rt: &R, s: &[u8]) -> bool {
 }
 
 // One write, and how many of the bytes it took: none where it failed, which is told on standard error.
-fn write_some<R: Print + Eprint + Alloc + Clock>(rt: &R, s: &[u8]) -> usize
-    ensures { result ≤ length s.now }
+fn write_some<O: Write, R: Eprint + Alloc + Clock>(rt: &R, to: &mut O, s: &[u8]) -> usize
+    ensures count_bound { result ≤ length s.now }
+    ensures bytes { Appends (O.contents to.old) (O.contents to.new) (take result s.now) }
 {
     for _ in 0..u64::MAX {
-        match rt.write_some(s) {
+        match to.write(s) {
             Ok(0) => return failed_write(rt, &Error::from(ErrorKind::WriteZero)),
             Ok(n) => return n,
             Err(e) => {

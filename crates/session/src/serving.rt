@@ -2,6 +2,7 @@
 use crate::channel::write_all;
 use crate::talking::talk;
 use std::env::FillError;
+use std::io::writer;
 use std::rt::{Clock, Env};
 
 // With no argument a conversation. Of one word, --help and --version are known.
@@ -26,7 +27,7 @@ fn answer_word<R: Env + Print + Eprint + Alloc + Clock>(rt: &R) {
             return;
         }
         if is_word(rt, b"--version") {
-            write_all(rt, b"sludgeline 0.11.0\n");
+            write_all(rt, &mut writer(rt), b"sludgeline 0.11.0\n");
             return;
         }
     }
@@ -54,6 +55,7 @@ fn help<R: Print + Eprint + Alloc + Clock>(rt: &R) {
 fn help_forms<R: Print + Eprint + Alloc + Clock>(rt: &R) -> bool {
     write_all(
         rt,
+        &mut writer(rt),
         b"sludgeline: the link between ASM1 and ADM1 on one plant record, a call a line\n\
 usage: sludgeline < CALLS > ANSWERS    or --help, or --version\n\
 (receive F..)   an ASM1 vector into the sludge tank\n\
@@ -69,6 +71,7 @@ usage: sludgeline < CALLS > ANSWERS    or --help, or --version\n\
 fn help_columns<R: Print + Eprint + Alloc + Clock>(rt: &R) -> bool {
     write_all(
         rt,
+        &mut writer(rt),
         b"F is (name N), in the order below; a missing column is zero. COD and oxygen in\n\
 mg; sno snh snd xnd sin cn in ticks of 0.0001 mg N; salk sic in mmol.\n\
 receive: si ss xi xs xbh xba xp so sno snh snd xnd salk\n\
@@ -80,6 +83,7 @@ settle: si ssu saa sfa sva sbu spro sac sh2 sch4 xi xc xch xpr xli xsu xaa xfa\n
 fn help_refusals<R: Print + Eprint + Alloc + Clock>(rt: &R) -> bool {
     write_all(
         rt,
+        &mut writer(rt),
         b"Each line is answered (ok ..), or (no N) and nothing is changed, where\n\
 \x201 a column of the record is above its ceiling\n\
 \x202 k is not 1 to 1000            3 a column handed over is above its ceiling\n\

@@ -72,7 +72,7 @@ printed-byte : (f : Figures) (t : Bool) (st : State) (b : ℕ)
 printed-byte f true st b = refl
 printed-byte f false st b = sym (append-nil st.printed)
 
-run-printed : (f : Figures) (st : State) (s : List ℕ) → (run f st s).printed ≡ st.printed ++ (run f (core st) s).printed
+pub run-printed : (f : Figures) (st : State) (s : List ℕ) → (run f st s).printed ≡ st.printed ++ (run f (core st) s).printed
 unfolding run
 run-printed f st [] = sym (append-nil st.printed)
 run-printed f st (b ∷ s) =

@@ -1,6 +1,17 @@
--- Between blocks no answer is left to write, and the buffers keep their lengths.
-use Rattle.std.proofs.Common.{◌≡◌, ◌≤◌, length}
+-- Between blocks no answer is left to write, the buffers keep their lengths, and of the bytes that were read so far, what is carried and
+-- what is written are those of the run through them.
+use Rattle.std.proofs.Common.{List, ℕ, ◌≡◌, ◌≤◌, length}
+use Rattle.std.specs.Io.KnownBytes.{Appends, Consumes}
+use Rattle.vectors.specs.Figures.{house}
+use Rattle.plant.specs.Record.{fresh_plant}
+use Rattle.lines.specs.Session.{start, core, run}
+use Rattle.lines.specs.Blocks.{carried}
 use Rattle.session.proofs.talking.talk_over.Given as goal
 
 abbrev pub invariant-loop : goal.invariant-loop
-invariant-loop g l = (l.p.held ≤ 1025) × (l.p.at ≡ 0) × (length l.line ≡ 1025) × (length l.out ≡ 65536)
+invariant-loop g l =
+    (l.p.held ≤ 1025) × (l.p.at ≡ 0) × (length l.line ≡ 1025) × (length l.out ≡ 65536) × (length l.input ≡ length l.initial.input)
+    × ((xs : List ℕ)
+    × Consumes (g.I.Read.remaining l.initial.from) (g.I.Read.remaining l.from) xs
+    × Appends (g.O.Write.contents l.initial.to) (g.O.Write.contents l.to) (run house (start fresh_plant) xs).printed
+    × (carried l.p l.line ≡ core (run house (start fresh_plant) xs)))
