@@ -1,6 +1,5 @@
-// The conversation: standard input in blocks, and the answers on standard output. What is printed is `printed` of crates/lines/specs. The
-// functions below `talk_over` promise what is carried from block to block; what no contract reaches is in docs/DECISIONS.md, "What is
-// proved of the program".
+// The conversation: standard input in blocks, and the answers on standard output. `talk_over` promises, for any reader and writer, that what
+// it writes is `printed` of crates/lines/specs; what no contract reaches is in docs/DECISIONS.md, "What is proved of the program".
 ghost use Rattle.std.specs.Prelude.{true, ◌≡◌, ◌≤◌, ◌<◌, length, take, IfSome};
 ghost use Rattle.std.specs.Io.KnownBytes.{Appends};
 ghost use Rattle.vectors.specs.Figures.{house};
