@@ -24,7 +24,7 @@ use Rattle.vectors.specs.Units.{milligrams, ticks}
 use Rattle.plant.specs.declared.record.Plant.{Plant}
 use Rattle.plant.specs.Record.{record_within}
 use Rattle.plant.specs.Answer.{unless, first}
-use Rattle.plant.specs.Calls.{refusal_of, settling}
+use Rattle.plant.specs.Calls.{refusal_for, settling}
 use Rattle.closing.specs.declared.Closed.{Closed}
 use Rattle.closing.specs.declared.Gaps.{Gaps}
 
@@ -127,7 +127,7 @@ close_of f p d = let n = first (close_tests (gap_of f p d)) in cond (eqb n 0) (c
 -- ---- the claims
 
 pub record Closes (f : Figures) (p : Plant) (d : List ℕ) (c : Closed) : Type 0 where
-  pub settles : refusal_of f p (settling c.gas c.vector) ≡ 0
+  pub settles : refusal_for f p (settling c.gas c.vector) ≡ 0
   pub keeps : SameBut c.vector d
 
 abbrev pub CloseLaw : Type 0
@@ -142,7 +142,7 @@ NoneLaw =
     → ((close_of f p d).refusal ≡ 0 → ⊥)
     → (gas : Milligrams) (e : List ℕ)
     → SameBut e d
-    → refusal_of f p (settling gas e) ≡ 0
+    → refusal_for f p (settling gas e) ≡ 0
     → ⊥
 
 abbrev pub OnlyLaw : Type 0
@@ -152,7 +152,7 @@ OnlyLaw =
     → (gas : Milligrams) (e : List ℕ)
     → length e ≡ 26
     → SameBut e d
-    → refusal_of f p (settling gas e) ≡ 0
+    → refusal_for f p (settling gas e) ≡ 0
     → close_of f p d ≡ record { refusal = 0; gas = gas; vector = e }
 
 pub record GapIs (f : Figures) (p : Plant) (d : List ℕ) : Type 0 where

@@ -1,6 +1,6 @@
 -- Calls and the lines that are written for them. proofs/Laws/Examples.antt proves the table by computation.
 --
---   Row, _writes_, _previews_  a call and its line, and a preview and its line
+--   Row, ◌writes◌, ◌previews◌  a call and its line, and a preview and its line
 --   examples                   the table
 --   ExamplesHold               the text of each row is its line
 use Rattle.std.specs.Prelude.{Bool, true, false, List, [], ◌∷◌, map, ◌≡◌, ℕ}

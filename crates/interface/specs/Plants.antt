@@ -1,6 +1,6 @@
 -- The hand-worked plants a to k: document 01, "Hand-worked plants" (k = 1000, unnamed columns zero).
 --
---   _is_                        a column by its name and its value
+--   ◌is◌                        a column by its name and its value
 --   asm1_named, digester_named    the columns that have these values, all others zero
 --   fed, returned               what an accepted conversion tells, with the columns that are not zero
 --   Row, plants                 the table

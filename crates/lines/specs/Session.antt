@@ -3,7 +3,7 @@
 --   cut, cut_lines                an input cut into lines
 --   given_by, answer_of, after_line what a line gives on a record: its outcome, its answer with a newline, the record
 --   answers, after_lines          the same for a list of lines, each on the record that the one before left
---   held_line                     the held line with its newline
+--   held_line_text                     the held line with its newline
 --   transcript, printed          all that is printed for a list of lines, and for an input, on a record
 --   entries                      the calls and previews that a list of lines asks
 --   State, run                   the same byte by byte, with at most 1,025 bytes of the line that is not ended
@@ -70,12 +70,12 @@ unfoldable pub after_lines : Figures → Plant → List (List ℕ) → Plant
 after_lines f p [] = p
 after_lines f p (l ∷ ls) = after_lines f (after_line f p l) ls
 
-abbrev pub held_line : Figures → Plant → List ℕ
-held_line f p = held_text (held_of f p) ++ (newline ∷ [])
+abbrev pub held_line_text : Figures → Plant → List ℕ
+held_line_text f p = held_text (held_of f p) ++ (newline ∷ [])
 
 -- for the lines ls on the record p
 abbrev pub transcript : Figures → Plant → List (List ℕ) → List ℕ
-transcript f p ls = answers f p ls ++ held_line f (after_lines f p ls)
+transcript f p ls = answers f p ls ++ held_line_text f (after_lines f p ls)
 
 -- for an input s; sludgeline begins with a fresh record
 abbrev pub printed : Figures → Plant → List ℕ → List ℕ

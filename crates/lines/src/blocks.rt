@@ -2,7 +2,7 @@
 ghost use Rattle.std.specs.Prelude.{◌≡◌, ◌+◌, ◌≤◌, ◌<◌, ◌&&◌, ltb, length, take};
 ghost use Rattle.vectors.specs.Figures.{house};
 ghost use Rattle.writing.specs.Buffer.{Put};
-ghost use Rattle.lines.specs.Session.{last_line, answer_of, after_line, answers, after_lines, held_line};
+ghost use Rattle.lines.specs.Session.{last_line, answer_of, after_line, answers, after_lines, held_line_text};
 ghost use Rattle.lines.specs.Blocks.{fits, room, desk, line_in, through, step_of, block_of, end_of};
 
 use crate::asking::{answer_line, held_line};
@@ -22,7 +22,7 @@ pub struct Place {
 
 // Goes through a block, until it is used or there is no room for an answer.
 pub fn answer_block(block: &[u8], line: &mut [u8], out: &mut [u8], p: Place) -> Place
-    ensures out_after { desk result line.new out.new ≡ block_of house block.now (desk p line.old out.old) }
+    ensures desk_after { desk result line.new out.new ≡ block_of house block.now (desk p line.old out.old) }
     ensures at_in_bounds { p.at ≤ length out.old → result.at ≤ length out.old }
 {
     let mut q = p;
@@ -44,7 +44,7 @@ fn is_ready(block: usize, line: usize, out: usize, p: Place) -> bool
 
 // Goes through one newline, or to the block's end. A place or buffers that do not fit stay as they are.
 pub fn step(block: &[u8], line: &mut [u8], out: &mut [u8], p: Place) -> Place
-    ensures out_after { desk result line.new out.new ≡ step_of house block.now (desk p line.old out.old) }
+    ensures desk_after { desk result line.new out.new ≡ step_of house block.now (desk p line.old out.old) }
     ensures at_in_bounds { p.at ≤ length out.old → result.at ≤ length out.old }
 {
     if block.len() <= p.used {
@@ -59,7 +59,7 @@ pub fn step(block: &[u8], line: &mut [u8], out: &mut [u8], p: Place) -> Place
 // The same where all fits.
 fn step_through(block: &[u8], line: &mut [u8], out: &mut [u8], p: Place) -> Place
     requires { (p.used < length block.now) × (p.held ≤ 1025) × (length line.old ≡ 1025) × (p.at + 513 ≤ length out.old) }
-    ensures out_after { desk result line.new out.new ≡ through house block.now (desk p line.old out.old) (line_in block.now p.used) (p.used + length (line_in block.now p.used)) }
+    ensures desk_after { desk result line.new out.new ≡ through house block.now (desk p line.old out.old) (line_in block.now p.used) (p.used + length (line_in block.now p.used)) }
     ensures at_in_bounds { result.at ≤ length out.old }
 {
     let from = p.used;
@@ -122,7 +122,7 @@ pub struct Gathered {
 // The answer to a line and its newline join the answers that are not written.
 fn gather_answer(plant: Plant, line: &[u8], out: &mut [u8], at: usize) -> Gathered
     requires { at + 513 ≤ length out.old }
-    ensures plant_value { (result.plant ≡ after_line house plant line.now) × (Put out.old at (answer_of house plant line.now) result.at out.new) }
+    ensures answer_gathered { (result.plant ≡ after_line house plant line.now) × (Put out.old at (answer_of house plant line.now) result.at out.new) }
     ensures at_bound { result.at ≤ at + 513 }
 {
     let a = answer_line(plant, line, &mut out[at..]);
@@ -136,7 +136,7 @@ fn gather_answer(plant: Plant, line: &[u8], out: &mut [u8], at: usize) -> Gather
 // Behind the last byte of the input: a line that lacks its newline is answered, and the held line stands behind its answer. A place or
 // buffers that do not fit stay as they are.
 pub fn end_session(line: &[u8], out: &mut [u8], p: Place) -> Place
-    ensures out_after { desk result line.now out.new ≡ end_of house (desk p line.now out.old) }
+    ensures desk_after { desk result line.now out.new ≡ end_of house (desk p line.now out.old) }
     ensures at_in_bounds { p.at ≤ length out.old → result.at ≤ length out.old }
 {
     if has_room(1026, p.held, p.at, line.len(), out.len()) {
@@ -156,7 +156,7 @@ pub fn end_session(line: &[u8], out: &mut [u8], p: Place) -> Place
 // The answer to a line that lacks its newline, where there is one, and its newline join the answers that are not written.
 fn gather_last(line: &[u8], out: &mut [u8], p: Place) -> Gathered
     requires { (p.held ≤ length line.now) × (p.at + 513 ≤ length out.old) }
-    ensures plant_value { (result.plant ≡ after_lines house p.plant (last_line (take p.held line.now))) × (Put out.old p.at (answers house p.plant (last_line (take p.held line.now))) result.at out.new) }
+    ensures answer_gathered { (result.plant ≡ after_lines house p.plant (last_line (take p.held line.now))) × (Put out.old p.at (answers house p.plant (last_line (take p.held line.now))) result.at out.new) }
     ensures at_bound { result.at ≤ p.at + 513 }
 {
     let plant = p.plant;
@@ -170,8 +170,8 @@ fn gather_last(line: &[u8], out: &mut [u8], p: Place) -> Gathered
 // The held line and its newline join them.
 fn gather_held(plant: Plant, out: &mut [u8], at: usize) -> usize
     requires { at + 513 ≤ length out.old }
-    ensures put { Put out.old at (held_line house plant) result out.new }
-    ensures upper_bound { result ≤ at + 513 }
+    ensures held_line_put { Put out.old at (held_line_text house plant) result out.new }
+    ensures at_bound { result ≤ at + 513 }
 {
     let h = held_line(plant, &mut out[at..]);
     let end = at + h.length;

@@ -8,8 +8,8 @@
 --   rule_by, step_by, step                       any of them, by a request
 --   preview_of                                  a preview of it: E3
 --   outcome_by                                  the one or the other
---   refusal_of                                  the refusal that applies first, or 0
---   tells_by, told_of                            what a call tells where none applies; the number and the values that a request is told
+--   refusal_for                                  the refusal that applies first, or 0
+--   tells_by, told_for                            what a call tells where none applies; the number and the values that a request is told
 --   TellsLaw, ExactLaw                         that an answer tells just these, and its number just the refusal
 --   request, receiving, feeding, ..            the requests
 --
@@ -169,8 +169,8 @@ abbrev pub outcome_by : Figures → Plant → Bool → Request → Outcome
 outcome_by f p b r = cond b (preview_of f p r) (step f p r)
 
 -- the first refusal that applies, or 0
-abbrev pub refusal_of : Figures → Plant → Request → ℕ
-refusal_of f p r = first (rule_by f p r.call r.sludge r.digester).tests
+abbrev pub refusal_for : Figures → Plant → Request → ℕ
+refusal_for f p r = first (rule_by f p r.call r.sludge r.digester).tests
 
 -- what it tells where no refusal applies: a feed what its conversion burns and reduces, and warn; a return what its conversion strips;
 -- the others nothing
@@ -186,16 +186,16 @@ tells_by f p (call.Release k) = nothing 0
 tells_by f p (call.Recycle k) = nothing 0
 
 -- the first refusal that applies, with zeros; or 0, with what the call tells
-unfoldable pub told_of : Figures → Plant → Request → Told
-told_of f p r = let n = refusal_of f p r in cond (eqb n 0) (tells_by f p r.call) (nothing n)
+unfoldable pub told_for : Figures → Plant → Request → Told
+told_for f p r = let n = refusal_for f p r in cond (eqb n 0) (tells_by f p r.call) (nothing n)
 
 -- an answer tells that number and these values. proofs/Laws/Calls.antt proves it: tells
 abbrev pub TellsLaw : Type 0
-TellsLaw = (f : Figures) (p : Plant) (r : Request) → told (step f p r).answer ≡ told_of f p r
+TellsLaw = (f : Figures) (p : Plant) (r : Request) → told (step f p r).answer ≡ told_for f p r
 
 -- the number that an answer tells is the refusal that applies first, exactly. proofs/Laws/Calls.antt proves it: exact
 abbrev pub ExactLaw : Type 0
-ExactLaw = (f : Figures) (p : Plant) (r : Request) → (told (step f p r).answer).number ≡ refusal_of f p r
+ExactLaw = (f : Figures) (p : Plant) (r : Request) → (told (step f p r).answer).number ≡ refusal_for f p r
 
 -- ---- requests
 

@@ -2,15 +2,15 @@
 ghost use Rattle.std.specs.Prelude.{◌≡◌};
 ghost use Rattle.vectors.specs.Figures.{house};
 ghost use Rattle.plant.specs.Answer.{told, first, decide};
-ghost use Rattle.plant.specs.Calls.{step, told_of, feeding, fed_tests, fed};
+ghost use Rattle.plant.specs.Calls.{step, told_for, feeding, fed_tests, fed};
 
 use crate::answer::{Answer, Outcome, refusal};
 use crate::record::{Plant, is_thousandths, record_within};
 
 // Refusals 1, 2, 4, 6 and 10.
 pub fn feed(plant: Plant, k: u64) -> Outcome
-    ensures value { result ≡ step house plant (feeding k) }
-    ensures answer_value { told result.answer ≡ told_of house plant (feeding k) }
+    ensures outcome { result ≡ step house plant (feeding k) }
+    ensures tells { told result.answer ≡ told_for house plant (feeding k) }
 {
     if record_within(plant) {
         if is_thousandths(k) {

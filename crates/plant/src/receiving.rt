@@ -2,15 +2,15 @@
 ghost use Rattle.std.specs.Prelude.{◌≡◌};
 ghost use Rattle.vectors.specs.Figures.{house};
 ghost use Rattle.plant.specs.Answer.{told};
-ghost use Rattle.plant.specs.Calls.{step, told_of, receiving};
+ghost use Rattle.plant.specs.Calls.{step, told_for, receiving};
 
 use crate::answer::{Answer, Outcome, refusal};
 use crate::record::{Plant, record_within};
 
 // Refusals 1, 3 and 10.
 pub fn receive(plant: Plant, v: [u64; 13]) -> Outcome
-    ensures value { result ≡ step house plant (receiving v) }
-    ensures answer_value { told result.answer ≡ told_of house plant (receiving v) }
+    ensures outcome { result ≡ step house plant (receiving v) }
+    ensures tells { told result.answer ≡ told_for house plant (receiving v) }
 {
     if record_within(plant) {
         if vectors::asm1_within(v) {

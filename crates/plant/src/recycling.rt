@@ -2,15 +2,15 @@
 ghost use Rattle.std.specs.Prelude.{◌≡◌};
 ghost use Rattle.vectors.specs.Figures.{house};
 ghost use Rattle.plant.specs.Answer.{told};
-ghost use Rattle.plant.specs.Calls.{step, told_of, recycling};
+ghost use Rattle.plant.specs.Calls.{step, told_for, recycling};
 
 use crate::answer::{Answer, Outcome, refusal};
 use crate::record::{Plant, is_thousandths, record_within};
 
 // Refusals 1, 2 and 10.
 pub fn recycle(plant: Plant, k: u64) -> Outcome
-    ensures value { result ≡ step house plant (recycling k) }
-    ensures answer_value { told result.answer ≡ told_of house plant (recycling k) }
+    ensures outcome { result ≡ step house plant (recycling k) }
+    ensures tells { told result.answer ≡ told_for house plant (recycling k) }
 {
     if record_within(plant) {
         if is_thousandths(k) {

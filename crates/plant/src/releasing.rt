@@ -2,15 +2,15 @@
 ghost use Rattle.std.specs.Prelude.{◌≡◌};
 ghost use Rattle.vectors.specs.Figures.{house};
 ghost use Rattle.plant.specs.Answer.{told};
-ghost use Rattle.plant.specs.Calls.{step, told_of, releasing};
+ghost use Rattle.plant.specs.Calls.{step, told_for, releasing};
 
 use crate::answer::{Answer, Outcome, refusal};
 use crate::record::{Plant, is_thousandths, record_within};
 
 // Refusals 1 and 2.
 pub fn release(plant: Plant, k: u64) -> Outcome
-    ensures value { result ≡ step house plant (releasing k) }
-    ensures answer_value { told result.answer ≡ told_of house plant (releasing k) }
+    ensures outcome { result ≡ step house plant (releasing k) }
+    ensures tells { told result.answer ≡ told_for house plant (releasing k) }
 {
     if record_within(plant) {
         if is_thousandths(k) {

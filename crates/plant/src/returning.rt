@@ -2,15 +2,15 @@
 ghost use Rattle.std.specs.Prelude.{◌≡◌};
 ghost use Rattle.vectors.specs.Figures.{house};
 ghost use Rattle.plant.specs.Answer.{told, first, decide};
-ghost use Rattle.plant.specs.Calls.{step, told_of, returning, returned_tests, returned};
+ghost use Rattle.plant.specs.Calls.{step, told_for, returning, returned_tests, returned};
 
 use crate::answer::{Answer, Outcome, refusal};
 use crate::record::{Plant, is_thousandths, record_within};
 
 // Document 01's return, whose word the language keeps. Refusals 1, 2, 5 and 10.
 pub fn give_back(plant: Plant, k: u64) -> Outcome
-    ensures value { result ≡ step house plant (returning k) }
-    ensures answer_value { told result.answer ≡ told_of house plant (returning k) }
+    ensures outcome { result ≡ step house plant (returning k) }
+    ensures tells { told result.answer ≡ told_for house plant (returning k) }
 {
     if record_within(plant) {
         if is_thousandths(k) {

@@ -4,7 +4,7 @@ ghost use Rattle.vectors.specs.Columns.{Below, digester_ceilings};
 ghost use Rattle.vectors.specs.Figures.{house};
 ghost use Rattle.vectors.specs.Totals.{digester_oxygen, digester_nitrate};
 ghost use Rattle.plant.specs.Answer.{told, first};
-ghost use Rattle.plant.specs.Calls.{step, told_of, settling, settled_tests};
+ghost use Rattle.plant.specs.Calls.{step, told_for, settling, settled_tests};
 
 use crate::answer::{Answer, Outcome, refusal};
 use crate::record::{Plant, record_within};
@@ -12,8 +12,8 @@ use vectors::{Milligrams, Ticks};
 
 // Refusals 1, 3, 7, 8 and 9.
 pub fn settle(plant: Plant, gas: Milligrams, d: [u64; 26]) -> Outcome
-    ensures value { result ≡ step house plant (settling gas d) }
-    ensures answer_value { told result.answer ≡ told_of house plant (settling gas d) }
+    ensures outcome { result ≡ step house plant (settling gas d) }
+    ensures tells { told result.answer ≡ told_for house plant (settling gas d) }
 {
     if record_within(plant) {
         if vectors::digester_within(d) {

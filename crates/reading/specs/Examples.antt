@@ -1,6 +1,6 @@
 -- Lines and what they are read as. proofs/Laws/Examples.antt proves the table by computation.
 --
---   Row, _asks_, examples      a line, and what it asks; the table
+--   Row, ◌asks◌, examples      a line, and what it asks; the table
 --   AllHold, ExamplesHold      each line of a table is read as that; each of this one is
 use Rattle.std.specs.Prelude.{true, false, List, [], ◌∷◌, ◌≡◌, ℕ, replicate}
 use Prim.Native.String.{String}

@@ -4,7 +4,7 @@
 --   same_bytes        two byte strings are the same, as a test
 --   up_to, behind     the bytes before the first b, and those behind it
 --   pieces           the pieces that end with b, and what stands behind the last b
---   _means_, look_up  a table of words and what they stand for, and the first of its words that is w
+--   ◌means◌, look_up  a table of words and what they stand for, and the first of its words that is w
 --   one_line          no newline stands in a byte string, as a test
 use Rattle.std.specs.Prelude.{Bool, true, false, cond, not, ◌&&◌, List, [], ◌∷◌, ℕ, eqb}
 use Prim.Native.Char.{code}

@@ -21,8 +21,8 @@ pub fn same(a: &[u8], b: &[u8]) -> bool
 
 // The place of the first b at from or behind it, or the length where there is none; from itself where that is behind the end.
 pub fn find_byte(s: &[u8], from: usize, b: u8) -> usize
-    ensures value { result ≡ from + length (up_to b (drop from s.now)) }
-    ensures upper_bound { from ≤ length s.now → result ≤ length s.now }
+    ensures first_place { result ≡ from + length (up_to b (drop from s.now)) }
+    ensures in_bounds { from ≤ length s.now → result ≤ length s.now }
 {
     if s.len() < from {
         return from;

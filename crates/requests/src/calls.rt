@@ -2,14 +2,14 @@
 ghost use Rattle.std.specs.Prelude.{◌≡◌};
 ghost use Rattle.vectors.specs.Figures.{house};
 ghost use Rattle.plant.specs.Answer.{told};
-ghost use Rattle.plant.specs.Calls.{step, preview_of, outcome_by, told_of};
+ghost use Rattle.plant.specs.Calls.{step, preview_of, outcome_by, told_for};
 
 use plant::{Call, Outcome, Plant, Request, feed, give_back, receive, recycle, release, settle};
 
 // What the request's call gives on the record.
 pub fn answer_request(plant: Plant, request: Request) -> Outcome
-    ensures value { result ≡ step house plant request }
-    ensures answer_value { told result.answer ≡ told_of house plant request }
+    ensures outcome { result ≡ step house plant request }
+    ensures tells { told result.answer ≡ told_for house plant request }
 {
     let call = request.call;
     let sludge = request.sludge;
@@ -26,16 +26,16 @@ pub fn answer_request(plant: Plant, request: Request) -> Outcome
 
 // What the request's call would answer, and the vector that it would hand out; the record comes back as it was handed in.
 pub fn preview(plant: Plant, request: Request) -> Outcome
-    ensures value { result ≡ preview_of house plant request }
-    ensures answer_value { told result.answer ≡ told_of house plant request }
+    ensures outcome { result ≡ preview_of house plant request }
+    ensures tells { told result.answer ≡ told_for house plant request }
 {
     answer_entry(plant, request, true)
 }
 
 // The call of a request, or a preview of it.
 pub fn answer_entry(plant: Plant, request: Request, preview: bool) -> Outcome
-    ensures value { result ≡ outcome_by house plant preview request }
-    ensures answer_value { told result.answer ≡ told_of house plant request }
+    ensures outcome { result ≡ outcome_by house plant preview request }
+    ensures tells { told result.answer ≡ told_for house plant request }
 {
     let mut outcome = answer_request(plant, request);
     if preview {

@@ -1,5 +1,6 @@
-// The conversation: standard input in blocks, and the answers on standard output. `talk_over` promises, for any reader and writer, that what
-// it writes is `printed` of crates/lines/specs; what no contract reaches is in docs/DECISIONS.md, "What is proved of the program".
+// The conversation: standard input in blocks, and the answers on standard output. `talk_over` promises, for a reader and a writer
+// whose bytes the logic knows, that what it writes is `printed` of crates/lines/specs; what no contract reaches is in docs/DECISIONS.md,
+// "What is proved of the program".
 ghost use Rattle.std.specs.Prelude.{true, ◌≡◌, ◌≤◌, ◌<◌, length, take, IfSome};
 ghost use Rattle.std.specs.Io.KnownBytes.{Appends};
 ghost use Rattle.vectors.specs.Figures.{house};
@@ -43,7 +44,7 @@ fn talk_over<I: Read, O: Write, R: Eprint + Alloc + Clock>(
     out: &mut [u8],
 ) -> bool
     requires { (length line.old ≡ 1025) × (length out.old ≡ 65536) }
-    ensures all { result ≡ true → 0 < length input.old → IfSome (I.remaining from.old) (λ xs. Appends (O.contents to.old) (O.contents to.new) (printed house fresh_plant xs)) }
+    ensures all_printed { result ≡ true → 0 < length input.old → IfSome (I.remaining from.old) (λ xs. Appends (O.contents to.old) (O.contents to.new) (printed house fresh_plant xs)) }
 {
     let plant = plant::fresh();
     let mut p = Place {
@@ -116,8 +117,8 @@ fn answer_all<O: Write, R: Eprint + Alloc + Clock>(
     p: Place,
 ) -> Written
     requires { (p.used ≡ 0) × (p.held ≤ 1025) × (p.at ≡ 0) × (length line.old ≡ 1025) × (length out.old ≡ 65536) }
-    ensures held_bound { (result.place.held ≤ 1025) × (result.place.at ≡ 0) }
-    ensures line_after { result.done ≡ true → carried result.place line.new ≡ core (run house (carried p line.old) block.now) }
+    ensures place_ready { (result.place.held ≤ 1025) × (result.place.at ≡ 0) }
+    ensures carries_run { result.done ≡ true → carried result.place line.new ≡ core (run house (carried p line.old) block.now) }
     ensures written { result.done ≡ true → Appends (O.contents to.old) (O.contents to.new) (run house (carried p line.old) block.now).printed }
 {
     let mut q = p;

@@ -144,8 +144,8 @@ fn sum_within(a: &[u64], b: &[u64], ceilings: &[u64]) -> bool
 
 // Adds src to dst, column by column.
 fn add_into(dst: &mut [u64], src: &[u64])
-    requires src_len { length src.now ≡ length dst.old }
-    requires by_index { (i : ℕ) → get_or dst.old i 0 + get_or src.now i 0 < 18446744073709551616 }
+    requires same_length { length src.now ≡ length dst.old }
+    requires sums_fit { (i : ℕ) → get_or dst.old i 0 + get_or src.now i 0 < 18446744073709551616 }
     ensures { dst.new ≡ added dst.old src.now }
 {
     let mut i = 0;

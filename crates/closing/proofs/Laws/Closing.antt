@@ -21,7 +21,7 @@ use Rattle.vectors.proofs.Laws.Columns.{within-column, within-below, below-withi
 use Rattle.plant.specs.declared.record.Plant.{Plant}
 use Rattle.plant.specs.Record.{record_within}
 use Rattle.plant.specs.Answer.{unless, first}
-use Rattle.plant.specs.Calls.{refusal_of, settling}
+use Rattle.plant.specs.Calls.{refusal_for, settling}
 use Rattle.plant.proofs.Laws.Decision.{first-pass, first-none, first-passed, unless-passed, number-case, number-none, number-some}
 use Rattle.plant.proofs.Laws.Calls.{SettlePassed, settle-passed, settle-passes}
 use Rattle.plant.proofs.Laws.Record.{digester-within}
@@ -140,7 +140,7 @@ gap-law f p d = record {
 
 -- settle's tests on what closes
 settles : (f : Figures) (p : Plant) (d : List ℕ) → Fitting f p d
-    → refusal_of f p (settling (milligrams (closing_gas p.digester d)) (closed_vector f p.digester d)) ≡ 0
+    → refusal_for f p (settling (milligrams (closing_gas p.digester d)) (closed_vector f p.digester d)) ≡ 0
 settles f p d t =
     let old = p.digester in
     let b = within-below digester_ceilings old (digester-within p t.held) in

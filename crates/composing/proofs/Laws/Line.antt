@@ -1,11 +1,11 @@
 -- The text of a call: it is read as the call, names no zero column, and is one line of at most 1,024 bytes. Assumes nothing.
 --
---   fields-length, call_length, entry_length   TextLengthLaw
+--   fields-length, call_length, entry-length   TextLengthLaw
 --   firsts, sludge-is, digester-is             a vector by its columns
 --   word-receive, settle-number, settle-rest   the parts of a text
 --   inner-around, text-call, text-line         a text in brackets
---   call-read, entry_read                      TextReadLaw
---   asked-gives, entry_gives                   TextGivesLaw
+--   call-read, entry-read                      TextReadLaw
+--   asked-gives, entry-gives                   TextGivesLaw
 --   call-no-zero, entry-no-zero                TextNoZeroLaw
 --   fields-one, call-one, entry-one            TextLineLaw
 use mathlib.Core.Bool.{Bool, true, false, cond}
@@ -111,8 +111,8 @@ call_length (Return k) v d = number-length (ascii "return ") k (omega arith)
 call_length (Release k) v d = number-length (ascii "release ") k (omega arith)
 call_length (Recycle k) v d = number-length (ascii "recycle ") k (omega arith)
 
-pub entry_length : TextLengthLaw
-entry_length b r = go b
+pub entry-length : TextLengthLaw
+entry-length b r = go b
   where
     t : List ℕ
     t = call_text r.call r.sludge r.digester
@@ -227,12 +227,12 @@ preview-asked (Return k) v d = refl
 preview-asked (Release k) v d = refl
 preview-asked (Recycle k) v d = refl
 
-pub entry_read : TextReadLaw
-entry_read true r h =
-    preview-form-law (call_text r.call r.sludge r.digester) (entry_length true r)
+pub entry-read : TextReadLaw
+entry-read true r h =
+    preview-form-law (call_text r.call r.sludge r.digester) (entry-length true r)
     ∙ ap preview_line (call-read r.call r.sludge r.digester h.number h.sludge h.digester)
     ∙ preview-asked r.call r.sludge r.digester
-entry_read false r h = call-read r.call r.sludge r.digester h.number h.sludge h.digester
+entry-read false r h = call-read r.call r.sludge r.digester h.number h.sludge h.digester
 
 -- ---- what the line gives
 
@@ -254,11 +254,11 @@ asked-gives f p b (Return k) v d = entry-same f p b (request (Return k)) _ refl
 asked-gives f p b (Release k) v d = entry-same f p b (request (Release k)) _ refl
 asked-gives f p b (Recycle k) v d = entry-same f p b (request (Recycle k)) _ refl
 
-pub entry_gives : TextGivesLaw
+pub entry-gives : TextGivesLaw
 unfolding line_outcome
-entry_gives f m p b r h l =
+entry-gives f m p b r h l =
     ap (λ (t : Bool). cond t (refused p 12) (form_outcome f p (read_line (entry_text b r)))) (le-ltb m 512 l)
-    ∙ ap (form_outcome f p) (entry_read b r h)
+    ∙ ap (form_outcome f p) (entry-read b r h)
     ∙ asked-gives f p b r.call r.sludge r.digester
 
 -- ---- no zero column is named
@@ -304,7 +304,7 @@ pub entry-no-zero : TextNoZeroLaw
 entry-no-zero true r h =
     let t = call_text r.call r.sludge r.digester in
     ap (λ (b : Bool). cond b (call_passes fields_no_zero (form_in (preview_text t))) (call_passes fields_no_zero (preview_text t)))
-    (preview-around t (entry_length true r))
+    (preview-around t (entry-length true r))
     ∙ ap (call_passes fields_no_zero) (form-around t)
     ∙ call-no-zero r.call r.sludge r.digester h.sludge h.digester
 entry-no-zero false r h =

@@ -33,7 +33,7 @@ use Rattle.reading.specs.Text.{newline}
 use Rattle.writing.specs.Buffer.{put_at, Put, Answered}
 use Rattle.writing.specs.Answer.{held_text, fitting}
 use Rattle.lines.specs.Asking.{outcome_text, line_text, LineAnswered, HeldAnswered}
-use Rattle.lines.specs.Session.{last_line, given_by, answer_of, after_line, answers, after_lines, held_line, transcript}
+use Rattle.lines.specs.Session.{last_line, given_by, answer_of, after_line, answers, after_lines, held_line_text, transcript}
 use Rattle.lines.specs.Blocks.{Desk, desk, place_at, fits, room_for, desk_fits, ready, room, gathered, answered_desk, ended, through, line_in, step_of}
 use Rattle.lines.specs.Blocks.{ended_desk, end_of}
 use Rattle.reading.proofs.Laws.Text.{rest_of, up_to-take}
@@ -80,7 +80,7 @@ module _ {f : Figures} {p : Plant} {l : List ℕ} (d : List ℕ) (at : ℕ) {r :
 
 pub held-gathered : {f : Figures} {p : Plant} (d : List ℕ) (at : ℕ) {r : HeldOutcome} {e : List ℕ} {k : ℕ} {g : List ℕ}
     → at + 513 ≤ length d → HeldAnswered f p (take (length d - at) (drop at d)) r e
-    → Put (rejoined d at e) (at + r.length) (newline ∷ []) k g → Put d at (held_line f p) k g × (k ≤ at + 513)
+    → Put (rejoined d at e) (at + r.length) (newline ∷ []) k g → Put d at (held_line_text f p) k g × (k ≤ at + 513)
 held-gathered {f} {p} d at h a q = text-gathered (held_text (held_of f p)) d at h a.text q
 
 -- ---- a step where all fits
@@ -202,11 +202,11 @@ module _ (f : Figures) (p : Place) (line out : List ℕ) where
   end-unfit h = sym (ap (λ b. cond b answered k) h)
 
   pub end-ready : (g : Gathered) {at : ℕ} {out2 out3 : List ℕ} → room_for 1026 k ≡ true
-      → (g.plant ≡ after_lines f p.plant l) × Put out p.at (answers f p.plant l) g.at out2 → Put out2 g.at (held_line f g.plant) at out3 → at ≤ length out
+      → (g.plant ≡ after_lines f p.plant l) × Put out p.at (answers f p.plant l) g.at out2 → Put out2 g.at (held_line_text f g.plant) at out3 → at ≤ length out
       → desk (place_at p.used 0 at g.plant) line out3 ≡ end_of f k
   unfolding end_of
   end-ready g {at} {out2} {out3} h t q n =
-      let w = put_then t.1 (subst (λ (x : Plant). Put out2 g.at (held_line f x) at out3) t.0 q) n in
+      let w = put_then t.1 (subst (λ (x : Plant). Put out2 g.at (held_line_text f x) at out3) t.0 q) n in
       ended-desk t.0 w
       ∙ sym (ap (λ b. cond b answered k) h)
     where

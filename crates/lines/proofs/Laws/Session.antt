@@ -23,7 +23,7 @@ use Rattle.reading.specs.declared.form.Line.{Line}
 use Rattle.reading.specs.Text.{newline}
 use Rattle.reading.specs.Line.{read_line}
 use Rattle.lines.specs.Asking.{form_outcome, asked_outcome, outcome_text}
-use Rattle.lines.specs.Session.{cut, given_by, answer_of, after_line, answers, after_lines, held_line, transcript, entry_of, entries}
+use Rattle.lines.specs.Session.{cut, given_by, answer_of, after_line, answers, after_lines, held_line_text, transcript, entry_of, entries}
 use Rattle.lines.specs.Session.{State, start, kept, ended, run, joined, run_blocks, said, PrintedLaw}
 use Rattle.reading.proofs.Laws.Line.{line-long}
 
@@ -82,7 +82,7 @@ module _ (f : Figures) where
   unfolding run cut answers after_lines
   from-held [] [] p out = refl
   from-held [] (b ∷ h) p out =
-      ap (λ (o : Outcome). out ++ ((outcome_text o ++ (newline ∷ [])) ++ [] ++ held_line f o.plant)) (given-cut f p (b ∷ h))
+      ap (λ (o : Outcome). out ++ ((outcome_text o ++ (newline ∷ [])) ++ [] ++ held_line_text f o.plant)) (given-cut f p (b ∷ h))
   from-held (b ∷ input) h p out =
       one (eqb b newline) input h p out b
       (from-held input [] (after_line f p h) (out ++ answer_of f p h))

@@ -27,7 +27,7 @@ use Rattle.plant.specs.declared.answer.Told.{Told}
 use Rattle.plant.specs.Record.{record_within}
 use Rattle.plant.specs.Answer.{nothing, told, refused, decide}
 use Rattle.plant.specs.Calls.{receive, feed, settle, give_back, release, recycle, rule_by, step_by, step, preview_of}
-use Rattle.plant.specs.Calls.{refusal_of, tells_by, told_of, settling}
+use Rattle.plant.specs.Calls.{refusal_for, tells_by, told_for, settling}
 use Rattle.plant.specs.Calls.{TellsLaw, ExactLaw}
 use Rattle.plant.proofs.Laws.Decision.{first-pass, first-none, first-passed, unless-passed}
 
@@ -51,10 +51,10 @@ tells-by f p (call.Release k) v d = (refl, refl)
 tells-by f p (call.Recycle k) v d = (refl, refl)
 
 pub tells : TellsLaw
-unfolding step_by told_of
+unfolding step_by told_for
 tells f p r =
-    decide-told p (refusal_of f p r) _
-    ∙ ap (λ (t : Told). cond (eqb (refusal_of f p r) 0) t (nothing (refusal_of f p r))) (tells-by f p r.call r.sludge r.digester).0
+    decide-told p (refusal_for f p r) _
+    ∙ ap (λ (t : Told). cond (eqb (refusal_for f p r) 0) t (nothing (refusal_for f p r))) (tells-by f p r.call r.sludge r.digester).0
 
 -- the number of what is told, where the call tells no number of its own
 number_is : (n : ℕ) (t : Told) → t.number ≡ 0 → (cond (eqb n 0) t (nothing n)).number ≡ n
@@ -65,16 +65,16 @@ number_is n t h = go (eqb n 0) refl
     go false e = refl
 
 pub exact : ExactLaw
-unfolding told_of
+unfolding told_for
 exact f p r = ap (λ (t : Told). t.number) (tells f p r) ∙ number_is _ _ (tells-by f p r.call r.sludge r.digester).1
 
 pub answered : (f : Figures) (p : Plant) (r : Request) {o : Outcome} → o ≡ step f p r
-    → (o ≡ step f p r) × (told o.answer ≡ told_of f p r)
+    → (o ≡ step f p r) × (told o.answer ≡ told_for f p r)
 answered f p r e = (e, ap (λ (x : Outcome). told x.answer) e ∙ tells f p r)
 
 pub previewed : (f : Figures) (p : Plant) (r : Request) {o : Outcome} → o ≡ step f p r
     → let x : Outcome = record { answer = o.answer; vector = o.vector; plant = p } in
-    (x ≡ preview_of f p r) × (told x.answer ≡ told_of f p r)
+    (x ≡ preview_of f p r) × (told x.answer ≡ told_for f p r)
 unfolding preview_of
 previewed f p r e =
     (ap (λ (x : Outcome). record { answer = x.answer; vector = x.vector; plant = p }) e, (answered f p r e).1)
@@ -89,7 +89,7 @@ pub record SettlePassed (f : Figures) (p : Plant) (g : Milligrams) (d : List ℕ
   pub oxygen : digester_oxygen p.digester ≡ digester_oxygen d
   pub nitrate : digester_nitrate p.digester ≡ digester_nitrate d
 
-pub settle-passed : (f : Figures) (p : Plant) (g : Milligrams) (d : List ℕ) → refusal_of f p (settling g d) ≡ 0 → SettlePassed f p g d
+pub settle-passed : (f : Figures) (p : Plant) (g : Milligrams) (d : List ℕ) → refusal_for f p (settling g d) ≡ 0 → SettlePassed f p g d
 unfolding settle
 settle-passed f p g d e =
     let at_1 = first-passed _ _ e in
@@ -107,7 +107,7 @@ settle-passed f p g d e =
     }
 
 -- and back
-pub settle-passes : (f : Figures) (p : Plant) (g : Milligrams) (d : List ℕ) → SettlePassed f p g d → refusal_of f p (settling g d) ≡ 0
+pub settle-passes : (f : Figures) (p : Plant) (g : Milligrams) (d : List ℕ) → SettlePassed f p g d → refusal_for f p (settling g d) ≡ 0
 unfolding settle
 settle-passes f p g d s =
     let oxygen = eq-eqb (digester_oxygen p.digester) (digester_oxygen d) s.oxygen in

@@ -23,7 +23,7 @@ use Rattle.plant.specs.declared.answer.Request.{Request}
 use Rattle.plant.specs.declared.answer.Outcome.{Outcome}
 use Rattle.plant.specs.Record.{fresh_plant, record_within}
 use Rattle.plant.specs.Answer.{first}
-use Rattle.plant.specs.Calls.{receive, feed, settle, give_back, release, recycle, rule_by, step_by, step, refusal_of}
+use Rattle.plant.specs.Calls.{receive, feed, settle, give_back, release, recycle, rule_by, step_by, step, refusal_for}
 use Rattle.plant.proofs.Laws.Record.{sludge-within, digester-within, reject-within}
 use Rattle.plant.proofs.Laws.Decision.{decide-case, first-passed, unless-passed}
 
@@ -77,7 +77,7 @@ module _ (f : Figures) (p : Plant) (h : record_within p ≡ true) where
 pub step-within : (f : Figures) (p : Plant) (r : Request) → record_within p ≡ true → record_within (step f p r).plant ≡ true
 unfolding step_by
 step-within f p r h =
-    decide-case Stays p (refusal_of f p r) _ (done-within f p h r.call r.sludge r.digester) (λ n. h)
+    decide-case Stays p (refusal_for f p r) _ (done-within f p h r.call r.sludge r.digester) (λ n. h)
 
 pub fresh-within : record_within fresh_plant ≡ true
 unfolding record_within within

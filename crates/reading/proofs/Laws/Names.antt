@@ -3,7 +3,7 @@
 --   column-found, column-next, column-end   a search for a name, one name a turn
 --   column-from                             a search that begins at a later column, where no name stands twice
 --   entries_at                              the entries of a table, by their places
---   entry-is, entry_length                  an entry, as the code finds it
+--   entry-is, entry-length                  an entry, as the code finds it
 --   entry_other                             an entry with another second byte
 --   sludge-name                             the code's table of ASM1 names
 use mathlib.Core.Bool.{Bool, true, false, cond, ◌&&◌, and-false, false≢true}
@@ -116,8 +116,8 @@ entry-is t c k e =
     four : 4 * c + 4 - 4 * c ≡ 4
     four = omega arith
 
-pub entry_length : (t : List ℕ) (c : ℕ) → length (entry_at t c) ≤ 4
-entry_length t c = omega (arith, up_to-length space (take 4 (drop (4 * c) t)), length-take 4 (drop (4 * c) t))
+pub entry-length : (t : List ℕ) (c : ℕ) → length (entry_at t c) ≤ 4
+entry-length t c = omega (arith, up_to-length space (take 4 (drop (4 * c) t)), length-take 4 (drop (4 * c) t))
 
 -- a name whose second byte is another is another name
 second-other : (b : ℕ) (s l : List ℕ) → 1 < length s → (get_or l 1 0 ≡ get_or s 1 0 → ⊥) → same_bytes s (up_to b l) ≡ false

@@ -5,7 +5,7 @@
 --   one-labelled  a label and a number
 --   one-column    a column
 --   one-columns   the columns of a release
---   one_answer    every answer
+--   one-answer    every answer
 --   one-held      every held line
 use mathlib.Core.Bool.{Bool, true, false, cond, not, ◌&&◌}
 use mathlib.Core.List.{List, [], ◌∷◌, ◌++◌}
@@ -113,17 +113,17 @@ one-released v =
     one-append (ascii "(ok release") (columns_text (names_of Sludge) 13 v ++ ascii ")") refl
     (one-append (columns_text (names_of Sludge) 13 v) (ascii ")") (one-columns (names_of Sludge) 13 v refl) refl)
 
-pub one_answer : AnswerLineLaw
+pub one-answer : AnswerLineLaw
 unfolding one_line four_text
-one_answer (Refused n) v = one-refused n
-one_answer Received v = refl
-one_answer (Fed b o n w) v =
+one-answer (Refused n) v = one-refused n
+one-answer Received v = refl
+one-answer (Fed b o n w) v =
     one-four (ascii "(ok feed burnt ") (ascii " oxygen ") (ascii " nitrate ") (ascii " warn ") b.0 o.0 n.0 w
     refl refl refl refl
-one_answer Settled v = refl
-one_answer (Returned s) v = one-returned s.0
-one_answer Released v = one-released v
-one_answer Recycled v = refl
+one-answer Settled v = refl
+one-answer (Returned s) v = one-returned s.0
+one-answer Released v = one-released v
+one-answer Recycled v = refl
 
 pub one-held : HeldLineLaw
 unfolding one_line four_text

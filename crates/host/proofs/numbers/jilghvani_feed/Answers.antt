@@ -5,4 +5,4 @@ use Rattle.host.proofs.numbers.jilghvani_feed.Goals as goal
 
 pub returns : goal.returns
 returns c =
-    called-out c.plant_at-p.ensures four_of c.feed-o.ensures.value c.put_outcome.ensures c.four_of.ensures
+    called-out c.plant_at-p.ensures four_of c.feed-o.ensures.outcome c.put_outcome.ensures c.four_of.ensures

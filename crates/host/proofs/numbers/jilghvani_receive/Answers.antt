@@ -4,4 +4,4 @@ use Rattle.host.proofs.numbers.jilghvani_receive.Goals as goal
 
 pub returns : goal.returns
 returns c =
-    called c.plant_at-p.ensures c.receive-o.ensures.value c.put_outcome.ensures
+    called c.plant_at-p.ensures c.receive-o.ensures.outcome c.put_outcome.ensures

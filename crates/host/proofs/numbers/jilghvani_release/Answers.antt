@@ -6,4 +6,4 @@ use Rattle.host.proofs.numbers.jilghvani_release.Goals as goal
 
 pub returns : goal.returns
 returns c =
-    called-out c.plant_at-p.ensures vector_of c.release-o.ensures.value c.put_outcome.ensures refl
+    called-out c.plant_at-p.ensures vector_of c.release-o.ensures.outcome c.put_outcome.ensures refl

@@ -12,7 +12,7 @@ by_form : (p : Plant) (l : Line) (x : Form) {o : Outcome} → l.form ≡ x → o
 by_form p l x e h = h ∙ ap (λ (y : Form). asked_outcome house p y l) (sym e)
 
 pub returns-in-Asked : goal.returns-in-Asked
-returns-in-Asked c = by_form _ _ _ c.in-Asked.is c.answer_entry.ensures.value
+returns-in-Asked c = by_form _ _ _ c.in-Asked.is c.answer_entry.ensures.outcome
 
 pub returns-in-NotAForm : goal.returns-in-NotAForm
 returns-in-NotAForm c = by_form _ _ _ c.in-NotAForm.is c.refusal.ensures

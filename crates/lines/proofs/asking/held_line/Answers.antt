@@ -1,4 +1,4 @@
--- `lines::asking::held_line` meets its contract. Assumes nothing.
+-- `lines::asking::held_line_text` meets its contract. Assumes nothing.
 use native.Mathlib.Omega.{arith}
 use Rattle.lines.proofs.Laws.Asking.{held-short, held-full}
 use Rattle.lines.proofs.asking.held_line.Goals as goal

@@ -23,14 +23,14 @@ returns-then-has_room c =
     let t = fits-true _ _ _ _ _ fit in
     let g = c.gather_last-g in
     let h = c.gather_held-at in
-    let room : h.result ≤ length a.out.now = omega (arith, t.2, g.ensures.at_bound, h.ensures.upper_bound) in
+    let room : h.result ≤ length a.out.now = omega (arith, t.2, g.ensures.at_bound, h.ensures.at_bound) in
     record {
-      out_after = end-ready _ a.p a.line.now a.out.now g.result fit g.ensures.plant_value h.ensures.put room;
+      desk_after = end-ready _ a.p a.line.now a.out.now g.result fit g.ensures.answer_gathered h.ensures.held_line_put room;
       at_in_bounds = λ b. room;
     }
 
 pub returns : goal.returns
 returns c = record {
-  out_after = end-unfit _ _ _ _ (sym c.has_room.ensures ∙ c.if-has_room.false);
+  desk_after = end-unfit _ _ _ _ (sym c.has_room.ensures ∙ c.if-has_room.false);
   at_in_bounds = λ b. b;
 }

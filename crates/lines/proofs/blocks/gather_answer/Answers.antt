@@ -8,4 +8,4 @@ pub returns : goal.returns
 returns c =
     let a = c.args in
     let g = answer-gathered a.out.now a.at c.requires c.answer_line-a.ensures (put-room _ _ (omega arith) c.put_fitting-k.ensures) in
-    record { plant_value = g.0; at_bound = g.1 }
+    record { answer_gathered = g.0; at_bound = g.1 }

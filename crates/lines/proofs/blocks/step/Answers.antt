@@ -5,7 +5,7 @@ use Rattle.lines.proofs.blocks.step.Goals as goal
 
 pub returns-then-block-p : goal.returns-then-block-p
 returns-then-block-p c = record {
-  out_after = step-used _ _ _ c.if-block-p.true;
+  desk_after = step-used _ _ _ c.if-block-p.true;
   at_in_bounds = λ b. b;
 }
 
@@ -14,12 +14,12 @@ step_through-requires c = let t = fits-true _ _ _ _ _ (sym c.has_room.ensures �
 
 pub returns-then-has_room : goal.returns-then-has_room
 returns-then-has_room c = record {
-  out_after = c.step_through.ensures.out_after ∙ step-ready _ _ _ c.if-block-p.false (sym c.has_room.ensures ∙ c.if-has_room.true);
+  desk_after = c.step_through.ensures.desk_after ∙ step-ready _ _ _ c.if-block-p.false (sym c.has_room.ensures ∙ c.if-has_room.true);
   at_in_bounds = λ b. c.step_through.ensures.at_in_bounds;
 }
 
 pub returns : goal.returns
 returns c = record {
-  out_after = step-unfit _ _ _ (sym c.has_room.ensures ∙ c.if-has_room.false);
+  desk_after = step-unfit _ _ _ (sym c.has_room.ensures ∙ c.if-has_room.false);
   at_in_bounds = λ b. b;
 }

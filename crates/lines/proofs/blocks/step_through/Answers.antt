@@ -17,19 +17,19 @@ slice_bounds-gather_answer-end-then-e-block c = sym (length-take-le _ _ (omega (
 pub returns-then-e-block : goal.returns-then-e-block
 returns-then-e-block c =
     let a = c.args in
-    let t = c.find_byte-e.ensures.value in
+    let t = c.find_byte-e.ensures.first_place in
     let k = put_same (ap (room a.p.held) (part-line a.block.now a.p.used c.find_byte-e.result t)) c.keep_bytes-held.ensures in
     record {
-      out_after = through-newline house a.block.now a.line.now a.out.now (line_in a.block.now a.p.used) a.p t k c.gather_answer-g.result c.if-e-block.true c.gather_answer-g.ensures.plant_value.0 c.gather_answer-g.ensures.plant_value.1;
+      desk_after = through-newline house a.block.now a.line.now a.out.now (line_in a.block.now a.p.used) a.p t k c.gather_answer-g.result c.if-e-block.true c.gather_answer-g.ensures.answer_gathered.0 c.gather_answer-g.ensures.answer_gathered.1;
       at_in_bounds = omega (arith, c.gather_answer-g.ensures.at_bound, c.requires);
     }
 
 pub returns : goal.returns
 returns c =
     let a = c.args in
-    let t = c.find_byte-e.ensures.value in
+    let t = c.find_byte-e.ensures.first_place in
     let k = put_same (ap (room a.p.held) (part-line a.block.now a.p.used c.find_byte-e.result t)) c.keep_bytes-held.ensures in
     record {
-      out_after = through-end house a.block.now a.line.now a.out.now (line_in a.block.now a.p.used) a.p t k (omega arith);
+      desk_after = through-end house a.block.now a.line.now a.out.now (line_in a.block.now a.p.used) a.p t k (omega arith);
       at_in_bounds = omega arith;
     }

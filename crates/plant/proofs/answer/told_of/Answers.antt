@@ -1,4 +1,4 @@
--- `plant::answer::told_of` meets its contract. Assumes nothing.
+-- `plant::answer::told_for` meets its contract. Assumes nothing.
 use mathlib.Core.Path.{sym, ap, ◌∙◌}
 use Rattle.plant.specs.Answer.{told}
 use Rattle.plant.proofs.answer.told_of.Goals as goal

@@ -25,7 +25,7 @@ returns-then-asm1_sum_within c =
       vector = no_columns;
       plant = record { sludge = c.asm1_sum-sum.ensures i; digester = p.digester; reject = p.reject };
     }))))) in
-    record { value = a.0; answer_value = a.1 }
+    record { outcome = a.0; tells = a.1 }
 
 pub returns-then-asm1_within : goal.returns-then-asm1_within
 unfolding step_by receive
@@ -34,7 +34,7 @@ returns-then-asm1_within c =
     (pass _ _ _ _ _ (flag c.record_within.ensures c.if-record_within.true)
     (pass _ _ _ _ _ (flag c.asm1_within.ensures c.if-asm1_within.true)
     (stop _ _ _ 10 _ tt (flag c.asm1_sum_within.ensures c.if-asm1_sum_within.false) c.refusal.ensures))) in
-    record { value = a.0; answer_value = a.1 }
+    record { outcome = a.0; tells = a.1 }
 
 pub returns-then-record_within : goal.returns-then-record_within
 unfolding step_by receive
@@ -42,10 +42,10 @@ returns-then-record_within c =
     let a = answered house c.args.plant (receiving c.args.v)
     (pass _ _ _ _ _ (flag c.record_within.ensures c.if-record_within.true)
     (stop _ _ _ 3 _ tt (flag c.asm1_within.ensures c.if-asm1_within.false) c.refusal-then-record_within.ensures)) in
-    record { value = a.0; answer_value = a.1 }
+    record { outcome = a.0; tells = a.1 }
 
 pub returns : goal.returns
 unfolding step_by receive
 returns c =
     let a = answered house c.args.plant (receiving c.args.v) (stop _ _ _ 1 _ tt (flag c.record_within.ensures c.if-record_within.false) c.refusal-2.ensures) in
-    record { value = a.0; answer_value = a.1 }
+    record { outcome = a.0; tells = a.1 }

@@ -41,7 +41,7 @@ returns-then-asm1_sum_within c =
             reject = c.asm1_rest-rest.ensures i;
           };
     }))))) in
-    record { value = a.0; answer_value = a.1 }
+    record { outcome = a.0; tells = a.1 }
 
 pub returns-then-is_thousandths : goal.returns-then-is_thousandths
 unfolding step_by recycle
@@ -53,7 +53,7 @@ returns-then-is_thousandths c =
     (pass _ _ _ _ _ (flag c.record_within.ensures c.if-record_within.true)
     (pass _ _ _ _ _ (flag c.is_thousandths.ensures c.if-is_thousandths.true)
     (stop _ _ _ 10 _ tt (flag fits c.if-asm1_sum_within.false) c.refusal.ensures))) in
-    record { value = a.0; answer_value = a.1 }
+    record { outcome = a.0; tells = a.1 }
 
 pub returns-then-record_within : goal.returns-then-record_within
 unfolding step_by recycle
@@ -61,10 +61,10 @@ returns-then-record_within c =
     let a = answered house c.args.plant (recycling c.args.k)
     (pass _ _ _ _ _ (flag c.record_within.ensures c.if-record_within.true)
     (stop _ _ _ 2 _ tt (flag c.is_thousandths.ensures c.if-is_thousandths.false) c.refusal-then-record_within.ensures)) in
-    record { value = a.0; answer_value = a.1 }
+    record { outcome = a.0; tells = a.1 }
 
 pub returns : goal.returns
 unfolding step_by recycle
 returns c =
     let a = answered house c.args.plant (recycling c.args.k) (stop _ _ _ 1 _ tt (flag c.record_within.ensures c.if-record_within.false) c.refusal-2.ensures) in
-    record { value = a.0; answer_value = a.1 }
+    record { outcome = a.0; tells = a.1 }

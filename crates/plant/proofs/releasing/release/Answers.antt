@@ -27,7 +27,7 @@ returns-then-is_thousandths c =
       vector = c.asm1_drawn-drawn.ensures i;
       plant = record { sludge = p.sludge; digester = p.digester; reject = c.asm1_rest-rest.ensures i };
     })))) in
-    record { value = a.0; answer_value = a.1 }
+    record { outcome = a.0; tells = a.1 }
 
 pub returns-then-record_within : goal.returns-then-record_within
 unfolding step_by release
@@ -35,10 +35,10 @@ returns-then-record_within c =
     let a = answered house c.args.plant (releasing c.args.k)
     (pass _ _ _ _ _ (flag c.record_within.ensures c.if-record_within.true)
     (stop _ _ _ 2 _ tt (flag c.is_thousandths.ensures c.if-is_thousandths.false) c.refusal.ensures)) in
-    record { value = a.0; answer_value = a.1 }
+    record { outcome = a.0; tells = a.1 }
 
 pub returns : goal.returns
 unfolding step_by release
 returns c =
     let a = answered house c.args.plant (releasing c.args.k) (stop _ _ _ 1 _ tt (flag c.record_within.ensures c.if-record_within.false) c.refusal-2.ensures) in
-    record { value = a.0; answer_value = a.1 }
+    record { outcome = a.0; tells = a.1 }

@@ -24,7 +24,7 @@ returns-then-n-eq0 c =
     (pass _ _ _ _ _ (flag c.record_within.ensures c.if-record_within.true)
     (pass _ _ _ _ _ (flag c.digester_within.ensures c.if-digester_within.true)
     (decide-none _ _ _ (sym c.open_balance-n.ensures ∙ c.if-n-eq0.true) refl))) in
-    record { value = a.0; answer_value = a.1 }
+    record { outcome = a.0; tells = a.1 }
 
 pub returns-then-digester_within : goal.returns-then-digester_within
 unfolding step_by settle
@@ -35,7 +35,7 @@ returns-then-digester_within c =
     (pass _ _ _ _ _ (flag c.record_within.ensures c.if-record_within.true)
     (pass _ _ _ _ _ (flag c.digester_within.ensures c.if-digester_within.true)
     (decide-refused _ _ _ (λ z. c.if-n-eq0.false (n ∙ z)) (c.refusal.ensures ∙ ap (refused p) n)))) in
-    record { value = a.0; answer_value = a.1 }
+    record { outcome = a.0; tells = a.1 }
 
 pub returns-then-record_within : goal.returns-then-record_within
 unfolding step_by settle
@@ -43,10 +43,10 @@ returns-then-record_within c =
     let a = answered house c.args.plant (settling c.args.gas c.args.d)
     (pass _ _ _ _ _ (flag c.record_within.ensures c.if-record_within.true)
     (stop _ _ _ 3 _ tt (flag c.digester_within.ensures c.if-digester_within.false) c.refusal-then-record_within.ensures)) in
-    record { value = a.0; answer_value = a.1 }
+    record { outcome = a.0; tells = a.1 }
 
 pub returns : goal.returns
 unfolding step_by settle
 returns c =
     let a = answered house c.args.plant (settling c.args.gas c.args.d) (stop _ _ _ 1 _ tt (flag c.record_within.ensures c.if-record_within.false) c.refusal-2.ensures) in
-    record { value = a.0; answer_value = a.1 }
+    record { outcome = a.0; tells = a.1 }

@@ -7,6 +7,6 @@ pub returns-then-s-from : goal.returns-then-s-from
 returns-then-s-from c =
     let a = c.args in
     record {
-      value = omega (arith, up-end a.b a.s.now a.from (omega (arith, c.if-s-from.true)));
-      upper_bound = λ h. absurd (omega (arith, h, c.if-s-from.true));
+      first_place = omega (arith, up-end a.b a.s.now a.from (omega (arith, c.if-s-from.true)));
+      in_bounds = λ h. absurd (omega (arith, h, c.if-s-from.true));
     }

@@ -15,10 +15,10 @@ by_kind p r x e h = h ∙ ap (λ (y : Bool). outcome_by house p y r) (sym e)
 
 pub returns-then-preview : goal.returns-then-preview
 returns-then-preview c =
-    let seen = previewed house c.args.plant c.args.request c.answer_request-outcome.ensures.value in
-    record { value = by_kind _ _ _ c.if-preview.true seen.0; answer_value = seen.1 }
+    let seen = previewed house c.args.plant c.args.request c.answer_request-outcome.ensures.outcome in
+    record { outcome = by_kind _ _ _ c.if-preview.true seen.0; tells = seen.1 }
 
 pub returns-else-preview : goal.returns-else-preview
 returns-else-preview c =
     let done = c.answer_request-outcome.ensures in
-    record { value = by_kind _ _ _ c.if-preview.false done.value; answer_value = done.answer_value }
+    record { outcome = by_kind _ _ _ c.if-preview.false done.outcome; tells = done.tells }

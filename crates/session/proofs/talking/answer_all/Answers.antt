@@ -26,11 +26,11 @@ loop-q-init g c =
       subst (Appends _ _) (sym nothing) (Appends-nil _),
     )
 
-pub returns-then-not-w-clause-held_bound : goal.returns-then-not-w-clause-held_bound
-returns-then-not-w-clause-held_bound g c =
+pub returns-then-not-w-clause-place_ready : goal.returns-then-not-w-clause-place_ready
+returns-then-not-w-clause-place_ready g c =
     let l = c.loop-q in
     let held = block_held house c.args.block.now (desk l.q l.line l.out) l.invariant.0 in
-    let same = ap (λ (x : Desk). x.place.held) c.answer_block-r.ensures.out_after in
+    let same = ap (λ (x : Desk). x.place.held) c.answer_block-r.ensures.desk_after in
     let behind = c.write_answers-w.ensures.place in
     (omega (arith, held, same, ap (λ (x : Place). x.held) behind), ap (λ (x : Place). x.at) behind)
 
@@ -42,7 +42,7 @@ loop-q-smaller g c =
     let block = c.args.block.now in
     let below : l.q.used < length block = search rules in
     let more = block_more house block k (ready_of block k below held line (omega (arith, at, out))) in
-    let used = ap (λ (x : Desk). x.place.used) c.answer_block-r.ensures.out_after in
+    let used = ap (λ (x : Desk). x.place.used) c.answer_block-r.ensures.desk_after in
     omega (arith, more, used, ap (λ (x : Place). x.used) c.write_answers-w.ensures.place, below)
 
 pub loop-q-preserved : goal.loop-q-preserved
@@ -56,11 +56,11 @@ loop-q-preserved g c =
     let st = carried a.p a.line.now in
     let m = desk b.result b.new.line b.new.out in
     let kept = block_held house a.block.now k held in
-    let same = ap (λ (x : Desk). x.place.held) b.ensures.out_after in
-    let run_on = block-carried house a.block.now st k m b.ensures.out_after run_so_far in
+    let same = ap (λ (x : Desk). x.place.held) b.ensures.desk_after in
+    let run_on = block-carried house a.block.now st k m b.ensures.desk_after run_so_far in
     let behind = carried-written house a.block.now st b.new.line b.result w.result.place w.ensures.place run_on in
     let used = ap (λ (x : Place). (run house st (take x.used a.block.now)).printed) w.ensures.place in
-    let more = used ∙ block_printed house a.block.now st k m b.ensures.out_after at run_so_far in
+    let more = used ∙ block_printed house a.block.now st k m b.ensures.desk_after at run_so_far in
     let done : w.result.done ≡ true = search rules in
     let appended = subst (Appends _ _) (sym more) (Appends-trans _ _ _ _ _ written (w.ensures.written done)) in (
       omega (arith, kept, same, ap (λ (x : Place). x.held) w.ensures.place),

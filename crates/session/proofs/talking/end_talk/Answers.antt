@@ -13,7 +13,7 @@ returns g c = λ done held line.
     let a = c.args in
     let (at, out) = c.requires in
     let k = desk a.p a.line.now a.out.now in
-    let left = ap (λ (x : Desk). take x.place.at x.out) c.end_session-q.ensures.out_after
+    let left = ap (λ (x : Desk). take x.place.at x.out) c.end_session-q.ensures.desk_after
     ∙ end-said house k (end_fits a.p a.line.now a.out.now held line at out)
     ∙ ap (said house) (desk_carried a.p a.line.now a.out.now at) in
     subst (Appends _ _) left (c.write_all.ensures done)

@@ -19,13 +19,13 @@ loop-init g c =
 
 pub returns-then-n-eq0 : goal.returns-then-n-eq0
 returns-then-n-eq0 g c = record {
-  all = λ done some.
+  all_printed = λ done some.
       let (held, at, line, out, input, (xs, consumed, written, so_far)) = c.loop.invariant in
       let r = c.read_some-got in
       let well : r.result.failed ≡ false = search rules in
       let zero : r.result.count ≡ 0 = search rules in
       let end = r.ensures.end well zero (omega (arith, some, input)) in
-      let all = Appends-trans _ _ _ _ _ written (c.end_talk.ensures done held line) in
+      let in_all = Appends-trans _ _ _ _ _ written (c.end_talk.ensures done held line) in
       all_read
       _
       _
@@ -37,7 +37,7 @@ returns-then-n-eq0 g c = record {
       (r.ensures.bytes well)
       (ap (λ (n : ℕ). take n r.new.input) zero)
       end
-      (subst (Appends _ _) (all_printed house fresh_plant (carried c.loop.p c.loop.line) xs so_far) all);
+      (subst (Appends _ _) (all_printed house fresh_plant (carried c.loop.p c.loop.line) xs so_far) in_all);
 }
 
 pub loop-preserved : goal.loop-preserved
@@ -52,8 +52,8 @@ loop-preserved g c =
     let now = carried c.next_block.result c.loop.line in
     let same = ap (λ (p : Place). carried p c.loop.line) c.next_block.ensures ∙ so_far in
     let more = Appends-trans _ _ _ _ _ written (a.ensures.written done) in (
-      a.ensures.held_bound.0,
-      a.ensures.held_bound.1,
+      a.ensures.place_ready.0,
+      a.ensures.place_ready.1,
       omega (arith, line, a.auto.line),
       omega (arith, out, a.auto.out),
       omega (arith, input, r.auto.input),
@@ -61,6 +61,6 @@ loop-preserved g c =
         xs ++ block,
         Consumes-trans _ _ _ _ _ consumed (r.ensures.bytes well),
         subst (Appends _ _) (printed_after house st now xs block same) more,
-        a.ensures.line_after done ∙ run_after house st now xs block same,
+        a.ensures.carries_run done ∙ run_after house st now xs block same,
       ),
     )

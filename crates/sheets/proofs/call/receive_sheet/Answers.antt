@@ -10,7 +10,7 @@ received-requires c =
 
 pub returns-then-s-eq0 : goal.returns-then-s-eq0
 returns-then-s-eq0 c =
-    sheet-received _ _ c.read_sheet-s.ensures house _ (search rules) c.receive-o.ensures.value c.received.ensures
+    sheet-received _ _ c.read_sheet-s.ensures house _ (search rules) c.receive-o.ensures.outcome c.received.ensures
 
 pub returns : goal.returns
 returns c =

@@ -5,10 +5,10 @@ use borrow.Author.Rules.{rules}
 use Rattle.vectors.proofs.ceilings.add_into.Goals as goal
 
 pub loop-i-init : goal.loop-i-init
-loop-i-init c = filled_none _ _ (added-length c.args.dst.now c.args.src.now c.requires.src_len)
+loop-i-init c = filled_none _ _ (added-length c.args.dst.now c.args.src.now c.requires.same_length)
 
 pub overflow_add-dst : goal.overflow_add-dst
-overflow_add-dst c = let l = c.loop-i in record { fits = rw (filled_at 0 l.invariant (search rules)) (c.requires.by_index l.i) }
+overflow_add-dst c = let l = c.loop-i in record { fits = rw (filled_at 0 l.invariant (search rules)) (c.requires.sums_fit l.i) }
 
 pub loop-i-preserved : goal.loop-i-preserved
 loop-i-preserved c =

@@ -6,4 +6,4 @@ use borrow.Author.Rules.{rules}
 use Rattle.vectors.proofs.ceilings.digester_sum.Goals as goal
 
 pub add_into-requires : goal.add_into-requires
-add_into-requires c = record { src_len = search rules; by_index = added-fits digester_ceilings _ _ (lit< tt) c.requires }
+add_into-requires c = record { same_length = search rules; sums_fit = added-fits digester_ceilings _ _ (lit< tt) c.requires }
