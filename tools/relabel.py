@@ -6,6 +6,7 @@ turned it.
     python3 tools/relabel.py            turns crates/ (src, specs, proofs and must-fail) below the current folder
 """
 import glob
+import os
 import re
 
 # Labels of clauses: the crate's files, the old label, the new one. In proofs a label is a field of a record or of `.ensures`.
@@ -18,6 +19,8 @@ def files(*patterns):
 
 
 def change(path, turn):
+    if not os.path.exists(path):
+        return
     text = open(path, encoding="utf-8").read()
     new = turn(text)
     if new != text:
