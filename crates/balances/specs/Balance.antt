@@ -1,19 +1,19 @@
 -- The balances over a list of calls: document 01, "Demand 3", and document 02, E1 (a recycle is neither received nor released), E3 (a
 -- preview counts for nothing) and E6 (a sheet counts by its counts).
 --
---   Entry                                   what stands in a list: a call, a preview of one, or a laboratory sheet
---   entry                                   an entry by whether it is a preview
---   after                                   the record after a list, each entry on the record that the one before returned
---   sum_over                                 a number that each call and its outcome give, added up over the list; previews are skipped
---   sheet_adds                               what a sheet adds to it: a sheet is a receive of its counts, one with a bad column nothing
---   accepted                                an answer that tells no refusal
---   counts                                  what a call counts for: a receive takes its vector in, a release hands one out, a settle
+--   Entry        what stands in a list: a call, a preview of one, or a laboratory sheet
+--   entry        an entry by whether it is a preview
+--   after        the record after a list, each entry on the record that the one before returned
+--   sum_over     a number that each call and its outcome give, added up over the list; previews are skipped
+--   sheet_adds   what a sheet adds to it: a sheet is a receive of its counts, one with a bad column nothing
+--   accepted     an answer that tells no refusal
+--   counts       what a call counts for: a receive takes its vector in, a release hands one out, a settle
 --                                           lets gas go; of the others, recycles among them, only what they tell is counted
 --   received, released                      a total of the vectors handed to accepted receives and of the counts of accepted sheets, and
 --                                           of the vectors handed out by accepted releases
---   burnt, oxygen_reduced, nitrate_reduced    what accepted feeds tell
---   gas                                     the gas COD handed to accepted settles
---   stripped                                what accepted returns tell
+--   burnt, oxygen_reduced, nitrate_reduced   what accepted feeds tell
+--   gas                                      the gas COD handed to accepted settles
+--   stripped                                 what accepted returns tell
 --   without_previews, SkipLaw                a list without its previews: the same record is after it, and every sum is the same.
 --                                           proofs/Laws/Balance.antt proves it: previews-skipped
 --   sheets_as_calls, SheetLaw                 a list with its sheets as receives of their counts, likewise.

@@ -2,16 +2,16 @@
 -- gives the vector and the gas with which settle accepts, and `gap` tells how far off a proposal is. old is the record's digester, d the
 -- proposal.
 --
---   replaced                  a digester vector with other sin, co and cn
+--   replaced                   a digester vector with other sin, co and cn
 --   other_tkn                  the TKN of all columns but sin
---   closing_sin, closing_gas    TKN old − that of the other columns, and COD old − COD new
---   gap_between, gap_of         COD too much, nitrogen too much, and how far the sin that closes is above its ceiling
---   close_tests, close_of       the refusals of close in the order in which they are tested, and its outcome
---   SameBut                   two vectors differ in sin, co and cn at most
---   CloseLaw                  where close is accepted, settle accepts what it gives, and only sin, co and cn have changed
---   NoneLaw                   where it is refused with 7, 8, or 3 for the sin that closes, no gas, sin, co and cn would do
---   OnlyLaw                   and where some would do, close gives them: there are no others
---   GapLaw                    close is accepted exactly where the gaps are zero
+--   closing_sin, closing_gas   TKN old − that of the other columns, and COD old − COD new
+--   gap_between, gap_of        COD too much, nitrogen too much, and how far the sin that closes is above its ceiling
+--   close_tests, close_of      the refusals of close in the order in which they are tested, and its outcome
+--   SameBut                    two vectors differ in sin, co and cn at most
+--   CloseLaw                   where close is accepted, settle accepts what it gives, and only sin, co and cn have changed
+--   NoneLaw                    where it is refused with 7, 8, or 3 for the sin that closes, no gas, sin, co and cn would do
+--   OnlyLaw                    and where some would do, close gives them: there are no others
+--   GapLaw                     close is accepted exactly where the gaps are zero
 --
 -- proofs/Laws/Closing.antt proves the four laws: close-law, none-law, only-law, gap-law. f is the set of figures; the code has the house
 -- set.

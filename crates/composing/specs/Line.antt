@@ -2,13 +2,13 @@
 --
 --   field_text, fields_from, fields_text   a column, left away where it is zero, and the columns of a vector in order
 --   receive_text, settle_text, call_text   a call in its brackets, with the vector that it takes
---   entry_text                           the same, or a preview of it
---   asked                               what a line with the call is read as: the vector that it does not take is zero
---   Holds                               13 and 26 columns, and no number above 2^64 − 1, as the code has them
---   TextReadLaw                         reading the text of a call yields the call. proofs/Laws/Line.antt proves it: entry-read
---   TextGivesLaw                        so the line gives what the call gives, on every record: entry-gives
---   names_no_zero                         no column that a line names is given zero, as a test
---   TextOnlyLaw                         a line that is read as the call and names no zero column is its text.
+--   entry_text                             the same, or a preview of it
+--   asked                                  what a line with the call is read as: the vector that it does not take is zero
+--   Holds                                  13 and 26 columns, and no number above 2^64 − 1, as the code has them
+--   TextReadLaw                            reading the text of a call yields the call. proofs/Laws/Line.antt proves it: entry-read
+--   TextGivesLaw                           so the line gives what the call gives, on every record: entry-gives
+--   names_no_zero                          no column that a line names is given zero, as a test
+--   TextOnlyLaw                            a line that is read as the call and names no zero column is its text.
 --                                       proofs/Laws/Only.antt proves it: entry-only
 --   TextNoZeroLaw                       the text of a call names none. proofs/Laws/Line.antt proves it: entry-no-zero
 --   TextLengthLaw                       it has at most 1,024 bytes: entry-length

@@ -2,7 +2,7 @@
 --
 --   line_text      the call's text and a newline
 --   written_text   the same, and no bytes where the buffer is under 1,025
---   LineWritten   the promise of the call: the refusal, the count and the whole buffer
+--   LineWritten    the promise of the call: the refusal, the count and the whole buffer
 use Rattle.std.specs.Prelude.{Bool, cond, List, [], ◌∷◌, ◌++◌, ◌≡◌, ℕ, ltb, length, drop}
 use Rattle.plant.specs.declared.answer.Request.{Request}
 use Rattle.reading.specs.Text.{newline}

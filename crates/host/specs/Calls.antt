@@ -1,13 +1,13 @@
 -- The calls that a host has: each is a call of a layer below, on the record that the host's 52 columns stand for.
 --
---   LineCalled           the call on a line: the columns behind it, the answer's bytes and the whole buffer
---   HeldCalled           the held line: its bytes and the whole buffer
---   Composed             a call as a line: its bytes and the whole buffer
---   Called               a call of the record by numbers: the columns behind it and the refusal's number
---   CalledOut            the same, with what the call tells or hands out
---   four_of, stripped_of   what a feed tells, and a return
---   SheetCalled          a laboratory sheet, with the four numbers that it tells (unseen_of)
---   TotalsCalled         what is in the tanks, by numbers
+--   LineCalled                       the call on a line: the columns behind it, the answer's bytes and the whole buffer
+--   HeldCalled                       the held line: its bytes and the whole buffer
+--   Composed                         a call as a line: its bytes and the whole buffer
+--   Called                           a call of the record by numbers: the columns behind it and the refusal's number
+--   CalledOut                        the same, with what the call tells or hands out
+--   four_of, stripped_of             what a feed tells, and a return
+--   SheetCalled                      a laboratory sheet, with the four numbers that it tells (unseen_of)
+--   TotalsCalled                     what is in the tanks, by numbers
 --   AsmToAdmCalled, AdmToAsmCalled   the conversions of a vector by itself
 --   CloseCalled, GapCalled           a proposal closed, and how far off it is
 --

@@ -1,7 +1,7 @@
 -- The record as a host lends it: 52 columns one behind the other.
 --
---   plant_at      the plant record that 52 columns stand for: sludge 13, digester 26, reject 13
---   columns_at    a plant record's 52 columns
+--   plant_at     the plant record that 52 columns stand for: sludge 13, digester 26, reject 13
+--   columns_at   a plant record's 52 columns
 --   ColumnsLaw   they are those that the record was taken from, so that a refused call leaves them as they were. proofs/Laws/Record.antt proves it: plant-columns
 use Rattle.std.specs.Prelude.{List, ◌++◌, ◌≡◌, ℕ, length, take, drop}
 use Rattle.plant.specs.declared.record.Plant.{Plant}

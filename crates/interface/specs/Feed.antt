@@ -1,10 +1,10 @@
 -- Feed, stage by stage: document 01, "Feed, stage by stage"; source document 004, "ASM1 → ADM1".
 --
 --   NitrateRule, nitrate_rule   how much COD nitrate burns
---   ceil                       a quotient rounded up
---   stage1 .. stage5           the stages, each with its symbols of document 01: A o r D, P, q P' H', R
+--   ceil                        a quotient rounded up
+--   stage1 .. stage5            the stages, each with its symbols of document 01: A o r D, P, q P' H', R
 --   fed_vector                  the digester vector that the stages give
---   feed_asm1, feed_of           the whole conversion: refusal 4, refusal 6, or the vector and the numbers told
+--   feed_asm1, feed_of          the whole conversion: refusal 4, refusal 6, or the vector and the numbers told
 --
 -- Where document 01 parts from 004:
 --   counts are whole, and each definition says where a leftover goes;

@@ -1,10 +1,10 @@
 -- The hand-worked plants a to k: document 01, "Hand-worked plants" (k = 1000, unnamed columns zero).
 --
---   ◌is◌                        a column by its name and its value
---   asm1_named, digester_named    the columns that have these values, all others zero
---   fed, returned               what an accepted conversion tells, with the columns that are not zero
---   Row, plants                 the table
---   Holds, PlantsHold           the conversion of the drawn vector is the outcome of the row; of every row. proofs/Laws/Plants.antt proves it.
+--   ◌is◌                         a column by its name and its value
+--   asm1_named, digester_named   the columns that have these values, all others zero
+--   fed, returned                what an accepted conversion tells, with the columns that are not zero
+--   Row, plants                  the table
+--   Holds, PlantsHold            the conversion of the drawn vector is the outcome of the row; of every row. proofs/Laws/Plants.antt proves it.
 use Rattle.std.specs.Prelude.{cond, List, [], ◌∷◌, map, ◌≡◌, ℕ}
 use Prim.Native.String.{String}
 use lib.Text.{eqt}

@@ -1,10 +1,10 @@
 -- Return: document 01, "Return"; source document 004, "ADM1 → ASM1".
 --
---   soluble, particulate   the COD that becomes ss, and xs
---   Nitrogen               what the three nitrogen columns hold
---   nitrogen_of             document 01's start: xnd, snd and snh by the digester's columns
---   taken                  nitrogen taken from xnd, then snd, then snh
---   returned_vector         the ASM1 vector
+--   soluble, particulate         the COD that becomes ss, and xs
+--   Nitrogen                     what the three nitrogen columns hold
+--   nitrogen_of                  document 01's start: xnd, snd and snh by the digester's columns
+--   taken                        nitrogen taken from xnd, then snd, then snh
+--   returned_vector              the ASM1 vector
 --   return_digester, return_of   the whole conversion: refusal 5, or the vector and the COD stripped
 --
 -- Where document 01 parts from 004: ixe × xi is taken from xnd, then snd, then snh, and a shortage refuses the return, where 004 lets xnd go below zero.

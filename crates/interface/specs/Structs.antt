@@ -1,9 +1,9 @@
 -- What the structs between the stages hold in the code: the numbers of the stages, each in its unit. The contracts of the stage functions cite these.
 --
---   Low, LowDigester                                        every column of the vector is at most its ceiling
---   Demands, Leaves, AcidsHeld, InertsHeld, RemainsHeld     the struct has the numbers of its stage
---   StagesHeld                                              the structs have the numbers of one vector's stages
---   nitrogen_counts                                          the numbers of the return's nitrogen
+--   Low, LowDigester                                      every column of the vector is at most its ceiling
+--   Demands, Leaves, AcidsHeld, InertsHeld, RemainsHeld   the struct has the numbers of its stage
+--   StagesHeld                                            the structs have the numbers of one vector's stages
+--   nitrogen_counts                                       the numbers of the return's nitrogen
 use Rattle.std.specs.Prelude.{◌≡◌, ℕ, ◌≤◌}
 use Rattle.vectors.specs.Columns.{cod_ceiling, tick_ceiling, asm1_ceilings, asm1_columns, digester_ceilings, digester_columns, Below}
 use Rattle.columns.specs.Counts.{asm1_counts, digester_counts}

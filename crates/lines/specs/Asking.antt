@@ -1,10 +1,10 @@
 -- The call on a line: document 01, "Lines in brackets" and "What the link sends away", and document 02, E3.
 --
---   request_of      the request of a line with a call
---   form_outcome    what a line that has been read gives on a record; no form is refused with 11
---   line_outcome    the outcome with a buffer of m bytes, refused with 12 where m is under 512
---   line_text       the answer's bytes
---   held_refusal    the refusal of the held line
+--   request_of     the request of a line with a call
+--   form_outcome   what a line that has been read gives on a record; no form is refused with 11
+--   line_outcome   the outcome with a buffer of m bytes, refused with 12 where m is under 512
+--   line_text      the answer's bytes
+--   held_refusal   the refusal of the held line
 --   LineAnswered   the promise of the call: the outcome, the count and the whole buffer
 --   HeldAnswered   the same of the held line
 use Rattle.std.specs.Prelude.{cond, List, ◌≡◌, ℕ, ltb, length}

@@ -1,15 +1,15 @@
 -- A session by blocks: how the program goes through what it has read.
 --
---   Desk, desk            a place with its two lent buffers: the line that is not ended, and the answers that are not written
---   fits, ready           the buffers have room for a line and its answer, and the block has bytes left
---   gathered              the line's bytes of the block join those that are held
---   answered_desk          the held line is answered
---   step_of                through one newline, or to the block's end
---   steps_of, block_of      step by step, until the block is used or there is no room for an answer
---   end_of                 behind the last byte of the input
---   state_of               the state of the session that a desk stands for
---   DeskLaw               the functions of the code, as the session byte by byte. proofs/Laws/Run.antt proves it: desks
---   carried               what goes from block to block: the line that is not ended and the record
+--   Desk, desk           a place with its two lent buffers: the line that is not ended, and the answers that are not written
+--   fits, ready          the buffers have room for a line and its answer, and the block has bytes left
+--   gathered             the line's bytes of the block join those that are held
+--   answered_desk        the held line is answered
+--   step_of              through one newline, or to the block's end
+--   steps_of, block_of   step by step, until the block is used or there is no room for an answer
+--   end_of               behind the last byte of the input
+--   state_of             the state of the session that a desk stands for
+--   DeskLaw              the functions of the code, as the session byte by byte. proofs/Laws/Run.antt proves it: desks
+--   carried              what goes from block to block: the line that is not ended and the record
 --
 -- Each is defined for any place, any buffers and any block; what does not fit stays as it is.
 use Rattle.std.specs.Prelude.{Bool, true, cond, ◌&&◌, List, [], ◌≡◌, ℕ, zero, suc, ◌+◌, ◌-◌, ltb, leb, eqb, length, take, drop}

@@ -2,14 +2,14 @@
 --
 --   cut, cut_lines                an input cut into lines
 --   given_by, answer_of, after_line what a line gives on a record: its outcome, its answer with a newline, the record
---   answers, after_lines          the same for a list of lines, each on the record that the one before left
---   held_line_text                     the held line with its newline
---   transcript, printed          all that is printed for a list of lines, and for an input, on a record
---   entries                      the calls and previews that a list of lines asks
---   State, run                   the same byte by byte, with at most 1,025 bytes of the line that is not ended
---   end_text                      behind the last byte: the answer to a line that lacks its newline, then the held line
---   joined, run_blocks            an input that falls into blocks, and its blocks one behind the other
---   PrintedLaw                   however an input falls into blocks, the answers on the way and then the end are what is printed for it.
+--   answers, after_lines   the same for a list of lines, each on the record that the one before left
+--   held_line_text         the held line with its newline
+--   transcript, printed    all that is printed for a list of lines, and for an input, on a record
+--   entries                the calls and previews that a list of lines asks
+--   State, run             the same byte by byte, with at most 1,025 bytes of the line that is not ended
+--   end_text               behind the last byte: the answer to a line that lacks its newline, then the held line
+--   joined, run_blocks     an input that falls into blocks, and its blocks one behind the other
+--   PrintedLaw             however an input falls into blocks, the answers on the way and then the end are what is printed for it.
 --                                proofs/Laws/Session.antt proves it: printed-whole
 --   written, WrittenLaw          the same where the answers are written behind each block: proofs/Laws/Carry.antt, written-whole
 --   PreviewGiven, PreviewLaw     (preview FORM) prints what FORM would, and leaves the record: proofs/Laws/Preview.antt, preview-given

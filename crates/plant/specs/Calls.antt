@@ -3,15 +3,15 @@
 --   Rule                                       what a call is: its refusals, in the order in which they are tested, and its outcome where
 --                                              none applies
 --   receive, feed, settle, give_back, release   the calls of 01; give_back is its return
---   recycle                                    the call of E1
---   fed_tests, fed, settled_tests, ..            parts of these that the code's parts cite
---   rule_by, step_by, step                       any of them, by a request
+--   recycle                                     the call of E1
+--   fed_tests, fed, settled_tests, ..           parts of these that the code's parts cite
+--   rule_by, step_by, step                      any of them, by a request
 --   preview_of                                  a preview of it: E3
 --   outcome_by                                  the one or the other
---   refusal_for                                  the refusal that applies first, or 0
---   tells_by, told_for                            what a call tells where none applies; the number and the values that a request is told
---   TellsLaw, ExactLaw                         that an answer tells just these, and its number just the refusal
---   request, receiving, feeding, ..            the requests
+--   refusal_for                                 the refusal that applies first, or 0
+--   tells_by, told_for                          what a call tells where none applies; the number and the values that a request is told
+--   TellsLaw, ExactLaw                          that an answer tells just these, and its number just the refusal
+--   request, receiving, feeding, ..             the requests
 --
 -- f is the set of figures; the code has the house set.
 use Rattle.std.specs.Prelude.{Bool, cond, ◌&&◌, List, [], ◌∷◌, ◌≡◌, ℕ, ◌+◌, eqb, replicate}

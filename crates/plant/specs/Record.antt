@@ -1,10 +1,10 @@
 -- The plant record: document 01, "The plant record and its five calls".
 --
---   Plant          the struct of the code: the tanks sludge, digester and reject
+--   Plant           the struct of the code: the tanks sludge, digester and reject
 --   no_columns      thirteen zeros, the vector of a call that hands none out
 --   fresh_plant     every column zero
 --   record_within   no column of a record is above its ceiling (refusal 1)
---   thousandths    k is from 1 to 1000 (refusal 2)
+--   thousandths     k is from 1 to 1000 (refusal 2)
 use Rattle.std.specs.Prelude.{Bool, ◌&&◌, List, ℕ, leb, replicate}
 use Rattle.vectors.specs.Columns.{asm1_ceilings, digester_ceilings, within}
 use Rattle.plant.specs.declared.record.Plant.{Plant}

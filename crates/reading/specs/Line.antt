@@ -1,19 +1,19 @@
 -- Whole lines: document 01, "Lines in brackets", and document 02, E2 and E3.
 --
---   in_brackets, inner   at most 1,024 bytes with a bracket around them, and what is inside
---   call_by              the form of a call in its brackets
---   preview_line         a preview of a form
---   is_previewed         a form that is one
+--   in_brackets, inner    at most 1,024 bytes with a bracket around them, and what is inside
+--   call_by               the form of a call in its brackets
+--   preview_line          a preview of a form
+--   is_previewed          a form that is one
 --   is_preview, form_in   a line is (preview FORM), and its FORM
---   line_by              a whole line: (preview FORM), or the form of a call
---   read_line            a line, its fields in order
---   preview_text         (preview FORM), with any bytes for FORM
---   PreviewFormLaw      it is read as the preview of what those bytes are read as, so that a preview inside a preview is no form.
+--   line_by               a whole line: (preview FORM), or the form of a call
+--   read_line             a line, its fields in order
+--   preview_text          (preview FORM), with any bytes for FORM
+--   PreviewFormLaw        it is read as the preview of what those bytes are read as, so that a preview inside a preview is no form.
 --                       proofs/Laws/Line.antt proves it: preview-form-law
---   passes              a line's fields, where it has any, pass a test
---   any_line             a line whose fields stand in any order
---   ordered             they are in order
---   OrderLaw            the lines of read_line are those of any_line that are ordered, and read as there.
+--   passes     a line's fields, where it has any, pass a test
+--   any_line   a line whose fields stand in any order
+--   ordered    they are in order
+--   OrderLaw   the lines of read_line are those of any_line that are ordered, and read as there.
 --                       proofs/Laws/Line.antt proves it: order-law
 use Rattle.std.specs.Prelude.{Bool, true, false, cond, ◌&&◌, List, [], ◌∷◌, ◌++◌, ◌≡◌, ℕ, ◌-◌, ◌≤◌, leb, eqb, length, take, drop, get_or}
 use Rattle.reading.specs.declared.names.Vector.TheVariants.{Sludge, Digester}

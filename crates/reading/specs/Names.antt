@@ -1,10 +1,10 @@
 -- Column names: document 01, "Units, columns and the house set" (the names) and "Lines in brackets".
 --
---   names_of             the names of a vector's columns, as bytes; sludge_names are those of ASM1
---   column_from          the first of the names that is s, counted from k
---   column_of            the column that a name stands for
---   from_column          that column where it is n or behind it
---   entry_at, entries    the names of a table with four bytes a name, spaces behind a shorter one
+--   names_of            the names of a vector's columns, as bytes; sludge_names are those of ASM1
+--   column_from         the first of the names that is s, counted from k
+--   column_of           the column that a name stands for
+--   from_column         that column where it is n or behind it
+--   entry_at, entries   the names of a table with four bytes a name, spaces behind a shorter one
 --   distinct, IsTable   no name stands twice; a table of such names
 use Rattle.std.specs.Prelude.{Bool, true, false, cond, ◌&&◌, List, [], ◌∷◌, map, ◌≡◌, ℕ, zero, suc, ◌+◌, ◌*◌, ◌≤◌, leb, length, take, drop}
 use Rattle.vectors.specs.Columns.{asm1_names, digester_names}

@@ -1,7 +1,7 @@
 -- Numbers: document 01, "Lines in brackets": decimal without leading zeros, at most 2^64 − 1.
 --
 --   read_number   the number that bytes stand for, or none
---   decimal      a number's digits; those of a number below 10^20, as every number of the code is
+--   decimal       a number's digits; those of a number below 10^20, as every number of the code is
 use Rattle.std.specs.Prelude.{Bool, true, false, cond, not, ◌&&◌, List, [], ◌∷◌, ℕ, zero, suc, ◌+◌, ◌-◌, ◌*◌, ◌^◌, leb, eqb}
 use Rattle.io.specs.Digits.{last_digits}
 use Rattle.reading.specs.declared.number.Number.{Number}

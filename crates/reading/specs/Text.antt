@@ -1,11 +1,11 @@
 -- Bytes of text: what the line language and the answers are made of.
 --
---   ascii            the bytes of a text
---   same_bytes        two byte strings are the same, as a test
---   up_to, behind     the bytes before the first b, and those behind it
---   pieces           the pieces that end with b, and what stands behind the last b
---   ◌means◌, look_up  a table of words and what they stand for, and the first of its words that is w
---   one_line          no newline stands in a byte string, as a test
+--   ascii              the bytes of a text
+--   same_bytes         two byte strings are the same, as a test
+--   up_to, behind      the bytes before the first b, and those behind it
+--   pieces             the pieces that end with b, and what stands behind the last b
+--   ◌means◌, look_up   a table of words and what they stand for, and the first of its words that is w
+--   one_line           no newline stands in a byte string, as a test
 use Rattle.std.specs.Prelude.{Bool, true, false, cond, not, ◌&&◌, List, [], ◌∷◌, ℕ, eqb}
 use Prim.Native.Char.{code}
 use Prim.Native.String.{String, [] as empty, ◌∷◌ as ◌then◌}

@@ -1,14 +1,14 @@
 -- What the program writes, block by block and in all.
 --
---   none_printed    where nothing is used, nothing is printed
---   block_printed   by a block's steps, what the run prints is what it printed before and then the bytes that are left to be written
---   desk_carried    a place with no answers left stands for what is carried
---   end_fits        where the buffers are the program's, the end of the session has room
---   run_after       the run through what was read before and then a block, from what is carried
---   printed_after   the same of what is printed
---   begun_printed, begun_carried    before the first block
---   all_read        where a reader is at its end, what was read is all that it had
---   all_printed     what is written until the input's end and then at the end of the session is what is printed for the input
+--   none_printed                   where nothing is used, nothing is printed
+--   block_printed                  by a block's steps, what the run prints is what it printed before and then the bytes that are left to be written
+--   desk_carried                   a place with no answers left stands for what is carried
+--   end_fits                       where the buffers are the program's, the end of the session has room
+--   run_after                      the run through what was read before and then a block, from what is carried
+--   printed_after                  the same of what is printed
+--   begun_printed, begun_carried   before the first block
+--   all_read                       where a reader is at its end, what was read is all that it had
+--   all_printed                    what is written until the input's end and then at the end of the session is what is printed for the input
 use Rattle.std.proofs.Common.{true, List, [], ◌∷◌, ◌++◌, ◌≡◌, ℕ, ◌+◌, ◌-◌, ◌≤◌, length, take, drop, arith, refl, sym, ap, ◌∙◌, subst, append-nil, None, Some, IfSome}
 use Rattle.std.specs.declared.option.Option.{Option}
 use Rattle.std.specs.Io.KnownBytes.{Consumes, IsAtEnd}

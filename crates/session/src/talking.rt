@@ -1,6 +1,6 @@
 // The conversation: standard input in blocks, and the answers on standard output. `talk_over` promises, for a reader and a writer
-// whose bytes the logic knows, that what it writes is `printed` of crates/lines/specs; what no contract reaches is in docs/DECISIONS.md,
-// "What is proved of the program".
+// whose bytes the logic knows, that where nothing fails what it writes is `printed` of crates/lines/specs; what no contract reaches is in
+// docs/DECISIONS.md, "What is proved of the program".
 ghost use Rattle.std.specs.Prelude.{true, ◌≡◌, ◌≤◌, ◌<◌, length, take, IfSome};
 ghost use Rattle.std.specs.Io.KnownBytes.{Appends};
 ghost use Rattle.vectors.specs.Figures.{house};

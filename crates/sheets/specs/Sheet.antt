@@ -1,19 +1,19 @@
 -- Laboratory sheets: document 02, E6.
 --
---   scales                  counts to the gram, or to the mole, for each ASM1 column
---   readings                what each entry of a sheet comes to, at its column
---   refusal_in               13 or 14 at the first bad column, or 0
---   counts_of, limits_of      the vectors of what the entries count as, and of the counts of their limits
---   not_sampled              how many entries were not sampled
---   unseen_of                what a sheet tells: the limits' totals of milligrams, oxygen among them, of ticks and of millimoles,
+--   scales                 counts to the gram, or to the mole, for each ASM1 column
+--   readings               what each entry of a sheet comes to, at its column
+--   refusal_in             13 or 14 at the first bad column, or 0
+--   counts_of, limits_of   the vectors of what the entries count as, and of the counts of their limits
+--   not_sampled            how many entries were not sampled
+--   unseen_of              what a sheet tells: the limits' totals of milligrams, oxygen among them, of ticks and of millimoles,
 --                           and that number
---   sheet_counts             the refusal alone, or all of these
---   sheet_received           what receive answered, for a sheet
---   sheet_step               the call: the counts of a sheet that is not turned away go through receive
---   CountsWithinLaw         no count is above its column's ceiling. proofs/Laws/Sheet.antt proves it: counts-within
---   SheetTestsLaw           so that a sheet is refused with 13 or 14, 1 and 10, the first that applies: sheet-tests
---   SheetRefusedLaw         a refusal gives the record back and tells zeros: sheet-refused
---   SheetAddsLaw            an accepted sheet adds its counts to the sludge tank: sheet-adds
+--   sheet_counts      the refusal alone, or all of these
+--   sheet_received    what receive answered, for a sheet
+--   sheet_step        the call: the counts of a sheet that is not turned away go through receive
+--   CountsWithinLaw   no count is above its column's ceiling. proofs/Laws/Sheet.antt proves it: counts-within
+--   SheetTestsLaw     so that a sheet is refused with 13 or 14, 1 and 10, the first that applies: sheet-tests
+--   SheetRefusedLaw   a refusal gives the record back and tells zeros: sheet-refused
+--   SheetAddsLaw      an accepted sheet adds its counts to the sludge tank: sheet-adds
 use Rattle.std.specs.Prelude.{true, cond, List, [], ◌∷◌, map, ◌≡◌, ℕ, ◌+◌, eqb}
 use Rattle.vectors.specs.declared.figures.Figures.{Figures}
 use Rattle.vectors.specs.Columns.{asm1, asm1_columns, asm1_ceilings, within, added}

@@ -2,10 +2,10 @@
 --
 --   Finding      the enum of the code: a measured value, a result below a detection limit with that limit, or not sampled
 --   countable    whether a value or a limit can be counted: it is finite and not negative, and minus zero counts as zero
---   count_of      the floor of its exact value times a scale
---   counted_of    its refusal, 13 or 14, or its count
---   size_of       a step on the code's way: the size of a float in units of the smallest, 2^-149, by its two fields
---   reading_of    what an entry comes to: its refusal; what it counts as; the count of its limit; 1 where it was not sampled
+--   count_of     the floor of its exact value times a scale
+--   counted_of   its refusal, 13 or 14, or its count
+--   size_of      a step on the code's way: the size of a float in units of the smallest, 2^-149, by its two fields
+--   reading_of   what an entry comes to: its refusal; what it counts as; the count of its limit; 1 where it was not sampled
 --
 -- An f32 is `nan`, `inf s` or `fin s m e`, which is exactly m × 2^e, negative where s is true; 2^e is up e / down e (lib.Ieee).
 use Rattle.std.specs.Prelude.{Bool, false, cond, not, ◌||◌, ℕ, ◌+◌, ◌-◌, ◌*◌, ◌/◌, ◌^◌, eqb, leb, Float}

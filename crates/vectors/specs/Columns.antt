@@ -1,13 +1,13 @@
 -- Columns and ceilings: document 01, "Units, columns and the house set"; source document 004, Tables 1 and 2.
 --
---   Asm1, Digester                   a vector by the names of its columns
---   asm1, digester                   the vector that a list of columns holds, the columns in document 01's order
+--   Asm1, Digester                     a vector by the names of its columns
+--   asm1, digester                     the vector that a list of columns holds, the columns in document 01's order
 --   asm1_columns, digester_columns     its columns again, as a list
 --   asm1_names, digester_names         the names of the columns, in the same order
 --   asm1_ceilings, digester_ceilings   the ceilings of the columns, in the same order
---   within                           no column is above its ceiling, as a test
---   Below                            the same as one inequality for each column
---   added                            the sum of two vectors, column by column
+--   within                             no column is above its ceiling, as a test
+--   Below                              the same as one inequality for each column
+--   added                              the sum of two vectors, column by column
 --
 -- A column past the end of a list counts as zero, so that every law below holds for lists of any length.
 use Rattle.std.specs.Prelude.{Bool, true, false, ◌&&◌, List, [], ◌∷◌, ℕ, suc, ◌+◌, ◌≤◌, leb, get_or}

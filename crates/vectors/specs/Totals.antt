@@ -4,9 +4,9 @@
 --   asm1_tkn, digester_tkn           total Kjeldahl nitrogen, by a set of figures
 --   asm1_oxygen, digester_oxygen     so, and co
 --   asm1_nitrate, digester_nitrate   sno, and cn
---   weigh                          weights times columns, added up: the form in which the code computes COD and TKN
+--   weigh                            weights times columns, added up: the form in which the code computes COD and TKN
 --   asm1_cod_weights, ..             the weights of COD
---   asm1_fractions, ..              the nitrogen fractions by column, which are the weights of TKN
+--   asm1_fractions, ..               the nitrogen fractions by column, which are the weights of TKN
 use Rattle.std.specs.Prelude.{List, [], ◌∷◌, ℕ, suc, ◌+◌, ◌*◌, get_or}
 use Rattle.vectors.specs.Columns.{asm1, asm1_columns, Digester, digester, digester_columns}
 use Rattle.vectors.specs.declared.figures.Figures.{Figures}

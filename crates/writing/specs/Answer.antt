@@ -1,10 +1,10 @@
 -- Answers as text: document 01, "Lines in brackets", and document 02, E1.
 --
---   column_text, columns_text   (name N), and the first k columns of a vector, each behind a space
---   four_text                  four numbers behind their labels
---   answer_text                an answer's bytes, with the vector of a release
---   held_text                  the held line's bytes
---   fitting                   no bytes where the buffer is under 512
+--   column_text, columns_text    (name N), and the first k columns of a vector, each behind a space
+--   four_text                    four numbers behind their labels
+--   answer_text                  an answer's bytes, with the vector of a release
+--   held_text                    the held line's bytes
+--   fitting                      no bytes where the buffer is under 512
 --   AnswerLineLaw, HeldLineLaw   neither holds a newline
 use Rattle.std.specs.Prelude.{true, cond, List, [], ◌∷◌, ◌++◌, ◌≡◌, ℕ, zero, suc, ltb, eqb, get_or}
 use Rattle.plant.specs.declared.answer.Answer.{Answer}

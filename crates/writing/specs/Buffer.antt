@@ -1,9 +1,9 @@
 -- Bytes in a lent buffer.
 --
---   put_at       the buffer with bytes s in the place of those from `at` on
---   Put         a writer's promise: s stands from `at` on, r is the place behind it, and all other bytes are as they were
---   Answered    the same at the start of the buffer, with r at most 512
---   fitted      all of the bytes s where a buffer of m bytes has room for them from `at` on, else none
+--   put_at     the buffer with bytes s in the place of those from `at` on
+--   Put        a writer's promise: s stands from `at` on, r is the place behind it, and all other bytes are as they were
+--   Answered   the same at the start of the buffer, with r at most 512
+--   fitted     all of the bytes s where a buffer of m bytes has room for them from `at` on, else none
 use Rattle.std.specs.Prelude.{cond, List, [], ◌++◌, ◌≡◌, ℕ, ◌+◌, ◌≤◌, leb, length, take, drop}
 
 unfoldable pub put_at : List ℕ → ℕ → List ℕ → List ℕ

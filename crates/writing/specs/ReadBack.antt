@@ -2,12 +2,12 @@
 --
 --   no_digits        no digit stands in a byte string, as a test
 --   numbers_in       the numbers in a text: each run of digits
---   replies         the words of accepted answers
+--   replies          the words of accepted answers
 --   read_answer      the answer that a text stands for
 --   all_short        every number that an answer tells has at most twenty digits, as every number of the code has
---   ReadBackLaw     reading what was written gives the answer back. proofs/Laws/ReadBack.antt proves it: answer-read
---   ReadColumnsLaw  and the vector of a release: columns-read
---   SameTextLaw     two answers that differ are written differently: answer-same
+--   ReadBackLaw      reading what was written gives the answer back. proofs/Laws/ReadBack.antt proves it: answer-read
+--   ReadColumnsLaw   and the vector of a release: columns-read
+--   SameTextLaw      two answers that differ are written differently: answer-same
 use Rattle.std.specs.Prelude.{Bool, true, false, cond, not, ◌&&◌, List, [], ◌∷◌, ◌≡◌, ℕ, ◌+◌, ◌-◌, ◌*◌, ◌^◌, ◌<◌, eqb, length, drop, get_or}
 use Rattle.vectors.specs.Units.{milligrams, ticks}
 use Rattle.plant.specs.declared.answer.Answer.{Answer}

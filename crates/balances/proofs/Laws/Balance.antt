@@ -1,11 +1,11 @@
 -- The balances over any list of calls, previews and sheets. Assumes nothing.
 --
---   Quantity      what a balance is about: a total of each vector, and what a call lets go of it
---   Kept          one call keeps a quantity
---   done-kept     each call does where no refusal applies
---   step_kept     any call does
---   sheet-kept    a sheet does
---   over          so does every list of them and of previews
+--   Quantity           what a balance is about: a total of each vector, and what a call lets go of it
+--   Kept               one call keeps a quantity
+--   done-kept          each call does where no refusal applies
+--   step_kept          any call does
+--   sheet-kept         a sheet does
+--   over               so does every list of them and of previews
 --   cod-quantity, ..   the four quantities
 --   balance            BalanceLaw
 --   recycle-holds      RecycleLaw

@@ -1,9 +1,9 @@
 -- What close gives, settle accepts, and nothing else would do. Assumes nothing.
 --
---   replaced-within   a vector with other sin, co and cn, each within its ceiling, is within its ceilings
---   gap_is, gap-sent  the gap, by the refusal that applies first, or none
---   close-is, close-sent   the same of close
---   Fitting           what there is to be closed: the three gaps are none
+--   replaced-within                          a vector with other sin, co and cn, each within its ceiling, is within its ceilings
+--   gap_is, gap-sent                         the gap, by the refusal that applies first, or none
+--   close-is, close-sent                     the same of close
+--   Fitting                                  what there is to be closed: the three gaps are none
 --   close-law, none-law, only-law, gap-law   CloseLaw, NoneLaw, OnlyLaw, GapLaw
 use mathlib.Core.Bool.{true}
 use mathlib.Core.List.{List}

@@ -1,11 +1,11 @@
 -- Laws of a call's line in a buffer. Assumes nothing.
 --
---   fields-then, fields-all  one column more, and all of them
---   settle-parts             a settle's number and its columns
---   call-as                  the text of an equal call
---   entry-call, entry-preview   a call by itself, and a preview of it
---   line_refused, line-written  the promise of the call in a short buffer, and in any other
---   line-filled              the part that the line fills
+--   fields-then, fields-all      one column more, and all of them
+--   settle-parts                 a settle's number and its columns
+--   call-as                      the text of an equal call
+--   entry-call, entry-preview    a call by itself, and a preview of it
+--   line_refused, line-written   the promise of the call in a short buffer, and in any other
+--   line-filled                  the part that the line fills
 use mathlib.Core.Bool.{Bool, true, false}
 use mathlib.Core.List.{List, [], ◌∷◌, ◌++◌, append_assoc, append-nil}
 use mathlib.Core.Path.{◌≡◌, sym, ap, ◌∙◌}

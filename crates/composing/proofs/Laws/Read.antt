@@ -1,8 +1,8 @@
 -- The columns of a vector that are written are read as the vector. Assumes nothing.
 --
 --   Lacks, lacks-append, lacks-digits, lacks-decimal   a byte that does not stand in bytes
---   up_to-past, behind-past                             a search past bytes that lack what is looked for
---   up_to-at, behind-at, pieces-at                      a search and a cut where it stands behind them
+--   up_to-past, behind-past                            a search past bytes that lack what is looked for
+--   up_to-at, behind-at, pieces-at                     a search and a cut where it stands behind them
 --   clear, Plain, plain-sludge, plain-digester         names of columns: none stands twice, no space and no bracket is in them
 --   name-column                                        the column of a name
 --   piece, piece-read, pieces-column                   a column that is written

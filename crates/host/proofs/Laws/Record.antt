@@ -1,9 +1,9 @@
 -- Laws of a record of 52 columns. Assumes nothing.
 --
---   part_length     n columns from a place on are n
---   copy_more       a loop that copies, one column more
---   copied-whole    a copy that fills a vector is what was copied
---   plant-columns   the columns of the record that 52 columns stand for are those columns
+--   part_length               n columns from a place on are n
+--   copy_more                 a loop that copies, one column more
+--   copied-whole              a copy that fills a vector is what was copied
+--   plant-columns             the columns of the record that 52 columns stand for are those columns
 --   put_three, copied-three   the three tanks, one behind the other
 use mathlib.Core.List.{List, [], ◌++◌, append_assoc, append-nil}
 use mathlib.Core.Path.{◌≡◌, sym, ap, ◌∙◌}

@@ -1,14 +1,14 @@
 -- Laws of the feed stages, and that an accepted feed keeps COD, TKN, oxygen and nitrate.
 -- Users of a stage go by these laws and not by its text. Assumes nothing.
 --
---   stage1-..  ..  stage5-..      what each stage keeps
---   stage1-covered, stage1-short  nitrate that COD covers, and nitrate that it is short for, by any rule
---   covered-law, short-law        the same by the rule of document 01: CoveredLaw, ShortLaw
---   stage1-is  ..  stage5-is      the same numbers, step by step
---   low-is                        a vector read from an array is as low as the array
---   feed-short, ..                the three outcomes of the conversion
---   feed-accepted                 what an accepted conversion is
---   feed-keeps                    FeedLaw
+--   stage1-..                      ..  stage5-..      what each stage keeps
+--   stage1-covered, stage1-short   nitrate that COD covers, and nitrate that it is short for, by any rule
+--   covered-law, short-law         the same by the rule of document 01: CoveredLaw, ShortLaw
+--   stage1-is                      ..  stage5-is      the same numbers, step by step
+--   low-is                         a vector read from an array is as low as the array
+--   feed-short, ..                 the three outcomes of the conversion
+--   feed-accepted                  what an accepted conversion is
+--   feed-keeps                     FeedLaw
 use mathlib.Core.Bool.{Bool, true, false, cond}
 use mathlib.Core.List.{List}
 use mathlib.Core.Path.{◌≡◌, refl, sym, subst}

@@ -1,11 +1,11 @@
 -- An answer tells exactly the refusal that applies first, or what its call tells. Assumes nothing.
 --
---   decide-told     what a decision tells, by the number that it was made by
---   tells-by        what each call tells where no refusal applies
---   tells           TellsLaw
---   exact           ExactLaw
---   answered        the two clauses of a call's contract, by the first
---   previewed       and of a preview's, by the call's
+--   decide-told                    what a decision tells, by the number that it was made by
+--   tells-by                       what each call tells where no refusal applies
+--   tells                          TellsLaw
+--   exact                          ExactLaw
+--   answered                       the two clauses of a call's contract, by the first
+--   previewed                      and of a preview's, by the call's
 --   settle-passed, settle-passes   what an accepted settle tells of its tests, and that no more is needed
 use mathlib.Core.Bool.{Bool, true, false, cond}
 use mathlib.Core.List.{List}

@@ -1,15 +1,15 @@
 -- Laws of refusals in their order. Assumes nothing.
 --
---   stop, pass                a test that fails gives its number; one that holds leaves the decision to the next
---   stop-number, pass-number  the same of a number that a conversion gives
---   none                      where no test is left, the outcome stands
---   decide-none, decide-refused          the same of a number that a function of the code gives
+--   stop, pass                                                     a test that fails gives its number; one that holds leaves the decision to the next
+--   stop-number, pass-number                                       the same of a number that a conversion gives
+--   none                                                           where no test is left, the outcome stands
+--   decide-none, decide-refused                                    the same of a number that a function of the code gives
 --   first-pass, first-stop, first-number, first-sent, first-none   and of the tests that it went through
---   flag                      a test of what a function gave is a test of what it stands for
---   number-case               what holds of both sides of a choice by a number holds of the choice
---   number-none, number-some  the side that a number chooses
---   decide-case               what holds of the outcome where no refusal applies, and of every refusal, holds of the decision
---   unless-passed, first-passed   what no refusal tells of the tests
+--   flag                                                           a test of what a function gave is a test of what it stands for
+--   number-case                                                    what holds of both sides of a choice by a number holds of the choice
+--   number-none, number-some                                       the side that a number chooses
+--   decide-case                                                    what holds of the outcome where no refusal applies, and of every refusal, holds of the decision
+--   unless-passed, first-passed                                    what no refusal tells of the tests
 use mathlib.Core.Bool.{Bool, true, false, cond}
 use mathlib.Core.List.{List, [], ◌∷◌}
 use mathlib.Core.Path.{◌≡◌, refl, sym, ◌∙◌}

@@ -2,10 +2,11 @@
 --
 --   sludge-within, digester-within, reject-within   the tanks of a record that is within its ceilings
 --   thousandths-le                                  a k that passes is at most 1000
+--   drawable                                        what a draw asks, by the two tests of the code: of the tank, and of k
 --   closes, closes-not                              COD that closes, tested without a sum
 --   and-true, and-false                             a conjunction, by its first part
 use mathlib.Core.Bool.{Bool, true, false, ◌&&◌}
-use mathlib.Core.Path.{◌≡◌, refl, sym}
+use mathlib.Core.Path.{◌≡◌, refl, sym, ◌∙◌}
 use Prim.Native.Nat.{ℕ, ◌+◌, ◌-◌, ◌≤◌, ◌<◌}
 use native.Mathlib.Omega.{arith}
 use lib.Dec.{leb, eqb}
@@ -30,6 +31,10 @@ reject-within p e = (both_true (within digester_ceilings p.digester) _ (both_tru
 pub thousandths-le : (k : ℕ) → thousandths k ≡ true → k ≤ 1000
 unfolding thousandths
 thousandths-le k e = leb-true k 1000 (both_true (leb 1 k) (leb k 1000) e).1
+
+pub drawable : {A : Type 0} (p : Plant) (k : ℕ) {a b : Bool} → (record_within p ≡ true → A)
+    → a ≡ record_within p → a ≡ true → b ≡ thousandths k → b ≡ true → A × (k ≤ 1000)
+drawable p k held e t f u = (held (sym e ∙ t), thousandths-le k (sym f ∙ u))
 
 pub and-true : (a b : Bool) {x : Bool} → a ≡ true → x ≡ b → x ≡ (a && b)
 and-true a b h e = rw h e

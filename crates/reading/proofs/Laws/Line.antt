@@ -5,6 +5,7 @@
 --   call_none, call-form                                           the form of a call in its brackets, by that test
 --   preview-word, preview-short, preview-brackets, preview-ten     the test of a preview
 --   preview-called                                                 a preview of a call
+--   between-preview, between-line                                  what is read between two bounds: a preview's form, or the whole line
 --   line-preview, line-call, line-long                             a whole line
 --   preview-form-law                                               PreviewFormLaw
 --   order-law                                                      OrderLaw
@@ -33,7 +34,7 @@ use Rattle.reading.specs.Form.{when_ok, any_fields, in_order, read_fields, line_
 use Rattle.reading.specs.Form.{settle_part, settle_by, form_of, form_by}
 use Rattle.reading.specs.Line.{in_brackets, inner, call_by, preview_by, preview_line, is_preview, form_in, read_line}
 use Rattle.reading.specs.Line.{bracketed, preview_text, PreviewFormLaw, form_passes, call_passes, OrderLaw}
-use Rattle.reading.proofs.Laws.Text.{same-lengths, same-equal}
+use Rattle.reading.proofs.Laws.Text.{same-lengths, same-equal, rest_of}
 use Rattle.reading.proofs.Laws.Form.{cond-swap}
 
 -- ---- brackets
@@ -110,6 +111,13 @@ pub preview-called : (l : Line) (call : Call) (b : Bool) → l.form ≡ Asked ca
 preview-called l call b e h = sym (ap (λ (x : Form). preview_by x l) e ∙ ap (λ (x : Bool). preview_by (Asked call x) l) h)
 
 -- ---- a whole line
+
+module _ (s : List ℕ) {b : Bool} {from to : ℕ} where
+  pub between-preview : b ≡ true → from ≡ 9 → to ≡ length s - 1 → take (to - from) (drop from s) ≡ cond b (form_in s) s
+  between-preview t f e = (λ i. take (e i - f i) (drop (f i) s)) ∙ ap (λ (x : Bool). cond x (form_in s) s) (sym t)
+
+  pub between-line : b ≡ false → from ≡ 0 → to ≡ length s → take (to - from) (drop from s) ≡ cond b (form_in s) s
+  between-line t f e = (λ i. take (e i - f i) (drop (f i) s)) ∙ rest_of s 0 ∙ ap (λ (x : Bool). cond x (form_in s) s) (sym t)
 
 module _ (s : List ℕ) where
   pub line-preview : is_preview s ≡ true → preview_line (call_by read_fields (form_in s)) ≡ read_line s

@@ -1,12 +1,12 @@
 -- Laws of bytes: comparing, searching, cutting. Assumes nothing.
 --
---   head_at                         the element at i, and the rest
---   same-..                         comparing two byte strings, one byte a turn
---   look-found, look-further        a word of a table: it is the first, or a further one
---   up-here, up_next, up-past, up-end   a search for the first b, one byte a turn
+--   head_at                                                                       the element at i, and the rest
+--   same-..                                                                       comparing two byte strings, one byte a turn
+--   look-found, look-further                                                      a word of a table: it is the first, or a further one
+--   up-here, up_next, up-past, up-end                                             a search for the first b, one byte a turn
 --   up_to-take, up_to-place, up_to-length, behind-drop, behind-next, behind-end   what a search has found, by its place
---   rest_of                         a part of a slice that goes to its end
---   pieces-cut, pieces-last, pieces-some  cutting behind each b
+--   rest_of                                                                       a part of a slice that goes to its end
+--   pieces-cut, pieces-last, pieces-some                                          cutting behind each b
 use mathlib.Core.Bool.{Bool, true, false, cond, and-false, false≢true}
 use mathlib.Core.List.{List, [], ◌∷◌}
 use mathlib.Core.Path.{◌≡◌, refl, sym, ap, ap₂, ◌∙◌}

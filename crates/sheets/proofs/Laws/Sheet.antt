@@ -1,13 +1,13 @@
 -- Laws of sheets. Assumes nothing.
 --
---   readings-length, readings-column   the readings of a sheet: how many, and the one at a column
---   missing-le, scales-le              an entry is not sampled once at most; the highest scale
---   first_next, first-here, sum-next   a list's first number that is not 0, and its sum, one column on
---   ReadTo, read-..                    where the loop over a sheet stands: its start, one turn, a bad column, its end
---   counts-within, limits-within       CountsWithinLaw, and the same of the limits
+--   readings-length, readings-column                          the readings of a sheet: how many, and the one at a column
+--   missing-le, scales-le                                     an entry is not sampled once at most; the highest scale
+--   first_next, first-here, sum-next                          a list's first number that is not 0, and its sum, one column on
+--   ReadTo, read-..                                           where the loop over a sheet stands: its start, one turn, a bad column, its end
+--   counts-within, limits-within                              CountsWithinLaw, and the same of the limits
 --   unseen-added, received-.., sheet-received, sheet-turned   the steps of the call
---   sheet-tests, sheet-refused, sheet-adds   SheetTestsLaw, SheetRefusedLaw, SheetAddsLaw
---   sheet-plant                        the record behind a sheet
+--   sheet-tests, sheet-refused, sheet-adds                    SheetTestsLaw, SheetRefusedLaw, SheetAddsLaw
+--   sheet-plant                                               the record behind a sheet
 use mathlib.Core.Bool.{true, cond}
 use mathlib.Core.List.{List, [], ◌∷◌, map}
 use mathlib.Core.Path.{◌≡◌, refl, sym, ap, ◌∙◌, subst}

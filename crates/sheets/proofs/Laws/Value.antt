@@ -1,16 +1,16 @@
 -- Laws of one value. Assumes nothing.
 --
---   count-by-value    the count of a float, by any fraction that it is
---   fields_value      the fraction that a float's fields stand for, in units of 2^-149
---   fields-top        the highest field is an infinity's or a NaN's
---   countable-..      what the test "at least zero" tells: one that passes and is finite can be counted, one that fails cannot
---   bits-counted      what the code reads off the bits is the float's count
---   bits-uncounted    the highest field, read off the bits, is that of a float that cannot be counted
---   test-uncounted, passed-number   a test that fails; one that passes, so that the bits may be read
---   capped-.., shifted-..   a count against its ceiling, and shifted
---   size-..           m × 2^k of the smallest values, scaled: for k below 149 and from there on; by the fields
+--   count-by-value                                the count of a float, by any fraction that it is
+--   fields_value                                  the fraction that a float's fields stand for, in units of 2^-149
+--   fields-top                                    the highest field is an infinity's or a NaN's
+--   countable-..                                  what the test "at least zero" tells: one that passes and is finite can be counted, one that fails cannot
+--   bits-counted                                  what the code reads off the bits is the float's count
+--   bits-uncounted                                the highest field, read off the bits, is that of a float that cannot be counted
+--   test-uncounted, passed-number                 a test that fails; one that passes, so that the bits may be read
+--   capped-.., shifted-..                         a count against its ceiling, and shifted
+--   size-..                                       m × 2^k of the smallest values, scaled: for k below 149 and from there on; by the fields
 --   measured-reading, limit-reading, by-finding   an entry, by its kind
---   count-le, limit-le   neither what an entry counts as nor its limit's count is above the ceiling
+--   count-le, limit-le                            neither what an entry counts as nor its limit's count is above the ceiling
 use mathlib.Core.Bool.{Bool, true, false, cond, not, ◌&&◌, ◌||◌}
 use mathlib.Core.Path.{◌≡◌, refl, sym, ap, ◌∙◌, subst}
 use Prim.Native.Nat.{ℕ, zero, suc, ◌+◌, ◌-◌, ◌*◌, ◌/◌, ◌%◌, ◌^◌, ◌≤◌, ◌<◌, zero-le}

@@ -12,5 +12,6 @@ digester_drawn-c-requires c = (sym c.digester_within.ensures ∙ c.if-digester_w
 pub return_of-o-requires : goal.return_of-o-requires
 return_of-o-requires c = (
   house-permitted,
-  rw c.digester_drawn-c.ensures (drawn-below digester_ceilings _ 1000 (sym c.digester_within.ensures ∙ c.if-digester_within.true) (lit≤ tt)),
+  rw c.digester_drawn-c.ensures (drawn-below digester_ceilings _ 1000
+      (sym c.digester_within.ensures ∙ c.if-digester_within.true) (lit≤ tt)),
 )

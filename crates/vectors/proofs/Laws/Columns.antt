@@ -1,11 +1,11 @@
 -- Laws of vectors of columns: loops that rewrite one, ceilings, sums. Assumes nothing.
 --
---   Filled               a loop that replaces the elements of one list by those of another, from the front
---   within-..            the ceiling test: at a column, one turn of a loop, its end, as inequalities; below-within from these
---   columns_from          columns by their places, and digester-columns by their names
---   added-..             the sum: its length, a column
---   top, within-top      the highest ceiling of a table bounds every column
---   added-fits           so that sums fit 64 bits
+--   Filled            a loop that replaces the elements of one list by those of another, from the front
+--   within-..         the ceiling test: at a column, one turn of a loop, its end, as inequalities; below-within from these
+--   columns_from      columns by their places, and digester-columns by their names
+--   added-..          the sum: its length, a column
+--   top, within-top   the highest ceiling of a table bounds every column
+--   added-fits        so that sums fit 64 bits
 use mathlib.Core.Bool.{Bool, true, false, cond, ◌&&◌, and-false}
 use mathlib.Core.List.{List, [], ◌∷◌, ◌++◌}
 use mathlib.Core.Path.{◌≡◌, refl, sym, ap, ◌∙◌}

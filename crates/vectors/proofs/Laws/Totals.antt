@@ -2,8 +2,8 @@
 --
 --   weigh-added, weigh-split, weigh-none   a weighing is linear
 --   weigh-step, weigh-end                  one turn of a loop that weighs, and its end
---   asm1_cod-weigh, ..                      the totals as weighings
---   asm1_cod-le, ..                         bounds
+--   asm1_cod-weigh, ..                     the totals as weighings
+--   asm1_cod-le, ..                        bounds
 --   total-laws                             TotalLaws
 use mathlib.Core.List.{List, [], ◌∷◌}
 use mathlib.Core.Path.{◌≡◌, refl, ap}

@@ -1,9 +1,9 @@
 -- Laws of an answer in a buffer. Assumes nothing.
 --
---   too_short   a buffer under 512 bytes keeps its bytes, and the answer has none
---   roomy       a buffer of 512 bytes or more has the text
---   replied     the same for the text of one kind of answer
---   held-replied  the held line of equal totals
+--   too_short      a buffer under 512 bytes keeps its bytes, and the answer has none
+--   roomy          a buffer of 512 bytes or more has the text
+--   replied        the same for the text of one kind of answer
+--   held-replied   the held line of equal totals
 use mathlib.Core.Bool.{cond}
 use mathlib.Core.List.{List, []}
 use mathlib.Core.Path.{◌≡◌, refl, sym, ap, subst}

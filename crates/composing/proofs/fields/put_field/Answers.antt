@@ -5,8 +5,8 @@ use Rattle.composing.proofs.Laws.Column.{field-none, field-some}
 use Rattle.composing.proofs.fields.put_field.Goals as goal
 
 pub returns-then-n-eq0 : goal.returns-then-n-eq0
-returns-then-n-eq0 c = (put_same (field-none _ _ c.if-n-eq0.true) (put-nothing _ _), omega arith)
+returns-then-n-eq0 c = (put_same (field-none _ c.args.n (omega arith)) (put-nothing _ _), omega arith)
 
 pub returns : goal.returns
 returns c =
-    (put_same (field-some _ _ c.if-n-eq0.false) c.put_column.ensures.0, c.put_column.ensures.1)
+    (put_same (field-some _ c.args.n (λ z. omega arith)) c.put_column.ensures.0, c.put_column.ensures.1)

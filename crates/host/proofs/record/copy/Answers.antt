@@ -18,7 +18,8 @@ loop-i-preserved c =
     let h = c.requires in (
       omega arith,
       simp length-set l.invariant.1,
-      ap (λ (x : List ℕ). set x (a.at + l.i) (get_or a.from.now (a.start + l.i) 0)) l.invariant.2 ∙ copy_more a.into.now a.at a.from.now a.start a.n l.i (omega arith) h.0 h.1,
+      ap (λ (x : List ℕ). set x (a.at + l.i) (get_or a.from.now (a.start + l.i) 0)) l.invariant.2
+          ∙ copy_more a.into.now a.at a.from.now a.start a.n l.i (omega arith) h.0 h.1,
     )
 
 pub returns : goal.returns

@@ -8,13 +8,13 @@ pub plus-requires-2 : goal.plus-requires-2
 plus-requires-2 c = omega (arith, c.requires.1.0)
 
 pub plus-requires-3 : goal.plus-requires-3
-plus-requires-3 c = omega (arith, c.requires.1.0, c.less-soluble.ensures.1, c.plus.ensures.0, c.nitrogen-biomass.ensures.1, c.plus-2.ensures.0, c.nitrogen-inert.ensures.1)
+plus-requires-3 c = omega arith
 
 pub plus-requires-4 : goal.plus-requires-4
-plus-requires-4 c = omega (arith, c.requires.1.0, c.less-soluble.ensures.1, c.plus.ensures.0, c.nitrogen-biomass.ensures.1, c.plus-2.ensures.0, c.nitrogen-inert.ensures.1, c.plus-3.ensures.0)
+plus-requires-4 c = omega arith
 
 pub plus-requires-5 : goal.plus-requires-5
-plus-requires-5 c = omega (arith, c.requires.1.0, c.less-soluble.ensures.1, c.plus.ensures.0, c.nitrogen-biomass.ensures.1, c.plus-2.ensures.0, c.nitrogen-inert.ensures.1, c.plus-3.ensures.0, c.plus-4.ensures.0)
+plus-requires-5 c = omega arith
 
 pub returns : goal.returns
 returns c =
@@ -25,5 +25,5 @@ returns c =
           c.nitrogen.ensures.0 c.less-soluble.ensures.0
           c.plus.ensures.0 c.nitrogen-biomass.ensures.0
           c.plus-2.ensures.0 c.nitrogen-inert.ensures.0 two three all,
-      omega (arith, c.requires.1.0, c.less-soluble.ensures.1, c.plus.ensures.0, c.nitrogen-biomass.ensures.1, c.plus-2.ensures.0, c.nitrogen-inert.ensures.1, two, three, all),
+      omega arith,
     )

@@ -15,16 +15,16 @@ pub nitrogen-inert-requires : goal.nitrogen-inert-requires
 nitrogen-inert-requires c = omega (arith, c.requires)
 
 pub plus-requires : goal.plus-requires
-plus-requires c = omega (arith, c.requires, c.nitrogen-composites.ensures.1, c.nitrogen-protein.ensures.1, c.degraders_of.ensures.1, c.nitrogen-biomass.ensures.1, c.nitrogen-inert.ensures.1, c.nitrogen-amino.ensures.1, c.nitrogen-soluble.ensures.1)
+plus-requires c = omega arith
 
 pub plus-requires-2 : goal.plus-requires-2
-plus-requires-2 c = omega (arith, c.requires, c.nitrogen-composites.ensures.1, c.nitrogen-protein.ensures.1, c.degraders_of.ensures.1, c.nitrogen-biomass.ensures.1, c.nitrogen-inert.ensures.1, c.nitrogen-amino.ensures.1, c.nitrogen-soluble.ensures.1, c.plus.ensures.0)
+plus-requires-2 c = omega arith
 
 pub plus-requires-3 : goal.plus-requires-3
-plus-requires-3 c = omega (arith, c.requires, c.nitrogen-composites.ensures.1, c.nitrogen-protein.ensures.1, c.degraders_of.ensures.1, c.nitrogen-biomass.ensures.1, c.nitrogen-inert.ensures.1, c.nitrogen-amino.ensures.1, c.nitrogen-soluble.ensures.1, c.plus.ensures.0, c.plus-2.ensures.0)
+plus-requires-3 c = omega arith
 
 pub plus-requires-4 : goal.plus-requires-4
-plus-requires-4 c = omega (arith, c.requires, c.nitrogen-composites.ensures.1, c.nitrogen-protein.ensures.1, c.degraders_of.ensures.1, c.nitrogen-biomass.ensures.1, c.nitrogen-inert.ensures.1, c.nitrogen-amino.ensures.1, c.nitrogen-soluble.ensures.1)
+plus-requires-4 c = omega arith
 
 pub returns : goal.returns
 returns c =
@@ -37,5 +37,5 @@ returns c =
     let xnd-is = plus xnd (plus three two_is (c.nitrogen-biomass.ensures.0 ∙ biomass)) c.nitrogen-inert.ensures.0 in
     let snd-is = plus snd c.nitrogen-amino.ensures.0 c.nitrogen-soluble.ensures.0 in (
       λ i. record { xnd = xnd-is i; snd = snd-is i; snh = c.args.d.sin.0 },
-      omega (arith, c.requires, c.nitrogen-composites.ensures.1, c.nitrogen-protein.ensures.1, c.degraders_of.ensures.1, c.nitrogen-biomass.ensures.1, c.nitrogen-inert.ensures.1, c.nitrogen-amino.ensures.1, c.nitrogen-soluble.ensures.1, two, three, xnd, snd),
+      omega arith,
     )

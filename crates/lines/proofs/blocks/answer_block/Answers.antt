@@ -20,13 +20,18 @@ pub loop-line-preserved : goal.loop-line-preserved
 loop-line-preserved c =
     let l = c.loop-line in
     let i = l.invariant in
-    let s = c.step-q in
-    (omega arith, omega arith, λ b. omega (arith, i.1, s.ensures.at_in_bounds (omega (arith, i.1, i.2 b))), block-step house c.args.block.now (desk l.q l.line l.out) _ s.ensures.desk_after ∙ i.3)
+    let s = c.step-q in (
+      omega arith,
+      omega arith,
+      λ b. omega (arith, i.1, s.ensures.at_in_bounds (omega (arith, i.1, i.2 b))),
+      block-step house c.args.block.now (desk l.q l.line l.out) _ s.ensures.desk_after ∙ i.3,
+    )
 
 pub returns : goal.returns
 returns c =
     let l = c.loop-line in
     record {
-      desk_after = block-done house c.args.block.now (desk l.q l.line l.out) (sym c.is_ready.ensures ∙ c.loop-line-test.false) ∙ l.invariant.3;
+      desk_after = block-done house c.args.block.now (desk l.q l.line l.out)
+          (sym c.is_ready.ensures ∙ c.loop-line-test.false) ∙ l.invariant.3;
       at_in_bounds = l.invariant.2;
     }

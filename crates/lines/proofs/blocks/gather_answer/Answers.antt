@@ -7,5 +7,6 @@ use Rattle.lines.proofs.blocks.gather_answer.Goals as goal
 pub returns : goal.returns
 returns c =
     let a = c.args in
-    let g = answer-gathered a.out.now a.at c.requires c.answer_line-a.ensures (put-room _ _ (omega arith) c.put_fitting-k.ensures) in
+    let g = answer-gathered a.out.now a.at c.requires c.answer_line-a.ensures
+    (put-room _ _ (omega arith) c.put_fitting-k.ensures) in
     record { answer_gathered = g.0; at_bound = g.1 }

@@ -6,5 +6,6 @@ use Rattle.lines.proofs.blocks.gather_held.Goals as goal
 
 pub returns : goal.returns
 returns c =
-    let g = held-gathered c.args.out.now c.args.at c.requires c.held_line-h.ensures (put-room _ _ (omega arith) c.put_fitting.ensures) in
+    let g = held-gathered c.args.out.now c.args.at c.requires c.held_line-h.ensures
+    (put-room _ _ (omega arith) c.put_fitting.ensures) in
     record { held_line_put = g.0; at_bound = g.1 }

@@ -10,7 +10,7 @@ pub returns-then-held-eq0 : goal.returns-then-held-eq0
 returns-then-held-eq0 c =
     let a = c.args in
     record {
-      answer_gathered = last_none house a.p.plant a.line.now a.out.now a.p.at a.p.held c.if-held-eq0.true;
+      answer_gathered = last_none house a.p.plant a.line.now a.out.now a.p.at a.p.held (omega arith);
       at_bound = omega arith;
     }
 
@@ -21,8 +21,7 @@ pub returns : goal.returns
 returns c =
     let a = c.args in
     let g = c.gather_answer in
-    let some = c.if-held-eq0.false in
     record {
-      answer_gathered = last_some house a.p.plant a.line.now a.out.now a.p.at a.p.held g.result some c.requires.0 g.ensures.answer_gathered;
+      answer_gathered = last_some house a.p.plant a.line.now a.out.now a.p.at a.p.held g.result (λ z. omega arith) c.requires.0 g.ensures.answer_gathered;
       at_bound = g.ensures.at_bound;
     }

@@ -10,11 +10,13 @@ returns-then-block-p c = record {
 }
 
 pub step_through-requires : goal.step_through-requires
-step_through-requires c = let t = fits-true _ _ _ _ _ (sym c.has_room.ensures ∙ c.if-has_room.true) in (c.if-block-p.false, t.0, t.1, t.2)
+step_through-requires c = let t = fits-true _ _ _ _ _ (sym c.has_room.ensures ∙ c.if-has_room.true) in
+    (c.if-block-p.false, t.0, t.1, t.2)
 
 pub returns-then-has_room : goal.returns-then-has_room
 returns-then-has_room c = record {
-  desk_after = c.step_through.ensures.desk_after ∙ step-ready _ _ _ c.if-block-p.false (sym c.has_room.ensures ∙ c.if-has_room.true);
+  desk_after = c.step_through.ensures.desk_after ∙ step-ready _ _ _ c.if-block-p.false
+      (sym c.has_room.ensures ∙ c.if-has_room.true);
   at_in_bounds = λ b. c.step_through.ensures.at_in_bounds;
 }
 

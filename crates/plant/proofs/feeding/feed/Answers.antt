@@ -7,21 +7,26 @@ use Rattle.vectors.proofs.Laws.Figures.{house-permitted}
 use Rattle.vectors.proofs.Laws.Draw.{drawn-below}
 use Rattle.plant.specs.Answer.{first, decide}
 use Rattle.plant.specs.Calls.{feeding, fed_tests, fed, feed, step_by}
-use Rattle.plant.proofs.Laws.Record.{sludge-within, thousandths-le}
+use Rattle.plant.proofs.Laws.Record.{sludge-within, drawable}
 use Rattle.plant.proofs.Laws.Calls.{answered}
 use Rattle.plant.proofs.Laws.Decision.{stop, pass, flag}
-use native.Mathlib.Omega.{arith}
 use Rattle.plant.proofs.feeding.feed.Goals as goal
 
 pub asm1_drawn-drawn-requires : goal.asm1_drawn-drawn-requires
-asm1_drawn-drawn-requires c = (sludge-within c.args.plant (flag c.record_within.ensures c.if-record_within.true), omega (arith, thousandths-le c.args.k (flag c.is_thousandths.ensures c.if-is_thousandths.true)))
+asm1_drawn-drawn-requires c =
+    drawable _ _ (sludge-within c.args.plant) c.record_within.ensures c.if-record_within.true
+    c.is_thousandths.ensures c.if-is_thousandths.true
 
 pub asm1_rest-rest-requires : goal.asm1_rest-rest-requires
-asm1_rest-rest-requires c = (sludge-within c.args.plant (flag c.record_within.ensures c.if-record_within.true), omega (arith, thousandths-le c.args.k (flag c.is_thousandths.ensures c.if-is_thousandths.true)))
+asm1_rest-rest-requires c =
+    drawable _ _ (sludge-within c.args.plant) c.record_within.ensures c.if-record_within.true
+    c.is_thousandths.ensures c.if-is_thousandths.true
 
 pub feed_of-o-requires : goal.feed_of-o-requires
 feed_of-o-requires c =
-    (house-permitted, rw c.asm1_drawn-drawn.ensures (drawn-below asm1_ceilings _ _ (sludge-within c.args.plant (flag c.record_within.ensures c.if-record_within.true)) (omega (arith, thousandths-le c.args.k (flag c.is_thousandths.ensures c.if-is_thousandths.true)))))
+    let low = drawable _ _ (sludge-within c.args.plant) c.record_within.ensures c.if-record_within.true
+    c.is_thousandths.ensures c.if-is_thousandths.true in
+    (house-permitted, rw c.asm1_drawn-drawn.ensures (drawn-below asm1_ceilings _ _ low.0 low.1))
 
 pub returns-then-is_thousandths : goal.returns-then-is_thousandths
 unfolding step_by feed
@@ -46,5 +51,6 @@ returns-then-record_within c =
 pub returns : goal.returns
 unfolding step_by feed
 returns c =
-    let a = answered house c.args.plant (feeding c.args.k) (stop _ _ _ 1 _ tt (flag c.record_within.ensures c.if-record_within.false) c.refusal-2.ensures) in
+    let a = answered house c.args.plant (feeding c.args.k)
+    (stop _ _ _ 1 _ tt (flag c.record_within.ensures c.if-record_within.false) c.refusal-2.ensures) in
     record { outcome = a.0; tells = a.1 }

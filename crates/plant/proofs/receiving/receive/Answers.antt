@@ -47,5 +47,6 @@ returns-then-record_within c =
 pub returns : goal.returns
 unfolding step_by receive
 returns c =
-    let a = answered house c.args.plant (receiving c.args.v) (stop _ _ _ 1 _ tt (flag c.record_within.ensures c.if-record_within.false) c.refusal-2.ensures) in
+    let a = answered house c.args.plant (receiving c.args.v)
+    (stop _ _ _ 1 _ tt (flag c.record_within.ensures c.if-record_within.false) c.refusal-2.ensures) in
     record { outcome = a.0; tells = a.1 }

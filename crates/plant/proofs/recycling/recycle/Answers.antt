@@ -5,19 +5,23 @@ use Rattle.vectors.specs.Figures.{house}
 use Rattle.plant.specs.declared.answer.Answer.TheVariants.{Recycled}
 use Rattle.plant.specs.Record.{no_columns}
 use Rattle.plant.specs.Calls.{recycling, recycle, step_by}
-use Rattle.plant.proofs.Laws.Record.{reject-within, thousandths-le}
+use Rattle.plant.proofs.Laws.Record.{reject-within, drawable}
 use Rattle.plant.proofs.Laws.Calls.{answered}
 use Rattle.plant.proofs.Laws.Decision.{stop, pass, none, flag}
 use Rattle.plant.proofs.recycling.recycle.Goals as goal
 
 pub asm1_drawn-drawn-requires : goal.asm1_drawn-drawn-requires
-asm1_drawn-drawn-requires c = (reject-within c.args.plant (flag c.record_within.ensures c.if-record_within.true), thousandths-le c.args.k (flag c.is_thousandths.ensures c.if-is_thousandths.true))
+asm1_drawn-drawn-requires c =
+    drawable _ _ (reject-within c.args.plant) c.record_within.ensures c.if-record_within.true
+    c.is_thousandths.ensures c.if-is_thousandths.true
 
 pub asm1_sum-sum-requires : goal.asm1_sum-sum-requires
 asm1_sum-sum-requires c = flag c.asm1_sum_within.ensures c.if-asm1_sum_within.true
 
 pub asm1_rest-rest-requires : goal.asm1_rest-rest-requires
-asm1_rest-rest-requires c = (reject-within c.args.plant (flag c.record_within.ensures c.if-record_within.true), thousandths-le c.args.k (flag c.is_thousandths.ensures c.if-is_thousandths.true))
+asm1_rest-rest-requires c =
+    drawable _ _ (reject-within c.args.plant) c.record_within.ensures c.if-record_within.true
+    c.is_thousandths.ensures c.if-is_thousandths.true
 
 pub returns-then-asm1_sum_within : goal.returns-then-asm1_sum_within
 unfolding step_by recycle
@@ -66,5 +70,6 @@ returns-then-record_within c =
 pub returns : goal.returns
 unfolding step_by recycle
 returns c =
-    let a = answered house c.args.plant (recycling c.args.k) (stop _ _ _ 1 _ tt (flag c.record_within.ensures c.if-record_within.false) c.refusal-2.ensures) in
+    let a = answered house c.args.plant (recycling c.args.k)
+    (stop _ _ _ 1 _ tt (flag c.record_within.ensures c.if-record_within.false) c.refusal-2.ensures) in
     record { outcome = a.0; tells = a.1 }

@@ -7,21 +7,26 @@ use Rattle.vectors.proofs.Laws.Figures.{house-permitted}
 use Rattle.vectors.proofs.Laws.Draw.{drawn-below}
 use Rattle.plant.specs.Answer.{first, decide}
 use Rattle.plant.specs.Calls.{returning, returned_tests, returned, give_back, step_by}
-use Rattle.plant.proofs.Laws.Record.{digester-within, thousandths-le}
+use Rattle.plant.proofs.Laws.Record.{digester-within, drawable}
 use Rattle.plant.proofs.Laws.Calls.{answered}
 use Rattle.plant.proofs.Laws.Decision.{stop, pass, flag}
-use native.Mathlib.Omega.{arith}
 use Rattle.plant.proofs.returning.give_back.Goals as goal
 
 pub digester_drawn-drawn-requires : goal.digester_drawn-drawn-requires
-digester_drawn-drawn-requires c = (digester-within c.args.plant (flag c.record_within.ensures c.if-record_within.true), omega (arith, thousandths-le c.args.k (flag c.is_thousandths.ensures c.if-is_thousandths.true)))
+digester_drawn-drawn-requires c =
+    drawable _ _ (digester-within c.args.plant) c.record_within.ensures c.if-record_within.true
+    c.is_thousandths.ensures c.if-is_thousandths.true
 
 pub digester_rest-rest-requires : goal.digester_rest-rest-requires
-digester_rest-rest-requires c = (digester-within c.args.plant (flag c.record_within.ensures c.if-record_within.true), omega (arith, thousandths-le c.args.k (flag c.is_thousandths.ensures c.if-is_thousandths.true)))
+digester_rest-rest-requires c =
+    drawable _ _ (digester-within c.args.plant) c.record_within.ensures c.if-record_within.true
+    c.is_thousandths.ensures c.if-is_thousandths.true
 
 pub return_of-o-requires : goal.return_of-o-requires
 return_of-o-requires c =
-    (house-permitted, rw c.digester_drawn-drawn.ensures (drawn-below digester_ceilings _ _ (digester-within c.args.plant (flag c.record_within.ensures c.if-record_within.true)) (omega (arith, thousandths-le c.args.k (flag c.is_thousandths.ensures c.if-is_thousandths.true)))))
+    let low = drawable _ _ (digester-within c.args.plant) c.record_within.ensures c.if-record_within.true
+    c.is_thousandths.ensures c.if-is_thousandths.true in
+    (house-permitted, rw c.digester_drawn-drawn.ensures (drawn-below digester_ceilings _ _ low.0 low.1))
 
 pub returns-then-is_thousandths : goal.returns-then-is_thousandths
 unfolding step_by give_back
@@ -46,5 +51,6 @@ returns-then-record_within c =
 pub returns : goal.returns
 unfolding step_by give_back
 returns c =
-    let a = answered house c.args.plant (returning c.args.k) (stop _ _ _ 1 _ tt (flag c.record_within.ensures c.if-record_within.false) c.refusal-2.ensures) in
+    let a = answered house c.args.plant (returning c.args.k)
+    (stop _ _ _ 1 _ tt (flag c.record_within.ensures c.if-record_within.false) c.refusal-2.ensures) in
     record { outcome = a.0; tells = a.1 }

@@ -48,5 +48,6 @@ returns-then-record_within c =
 pub returns : goal.returns
 unfolding step_by settle
 returns c =
-    let a = answered house c.args.plant (settling c.args.gas c.args.d) (stop _ _ _ 1 _ tt (flag c.record_within.ensures c.if-record_within.false) c.refusal-2.ensures) in
+    let a = answered house c.args.plant (settling c.args.gas c.args.d)
+    (stop _ _ _ 1 _ tt (flag c.record_within.ensures c.if-record_within.false) c.refusal-2.ensures) in
     record { outcome = a.0; tells = a.1 }

@@ -12,8 +12,12 @@ use Rattle.reading.proofs.fields.fields_in.Goals as goal
 
 pub loop-i-init : goal.loop-i-init
 loop-i-init c =
-    let e = c.no_fields-f.ensures in
-    (omega arith, ap (λ (f : Fields). f.ok) e, ap (λ (f : Fields). left (entries c.args.count c.args.table.now) 0 f (pieces 41 c.args.s.now)) e)
+    let e = c.no_fields-f.ensures in (
+      omega arith,
+      ap (λ (f : Fields). f.ok) e,
+      ap (λ (f : Fields). left (entries c.args.count c.args.table.now) 0 f
+          (pieces 41 c.args.s.now)) e,
+    )
 
 pub returns-then-s-e : goal.returns-then-s-e
 returns-then-s-e c =
@@ -25,7 +29,8 @@ returns-then-s-e c =
 pub returns-then-c-ge26 : goal.returns-then-c-ge26
 returns-then-c-ge26 c =
     let k = c.column_in-c.ensures in
-    c.no_fields-then-c-ge26.ensures ∙ sym (left-stop (entries c.args.count c.args.table.now) c.loop-i.next c.loop-i.f c.args.s.now c.loop-i.i
+    c.no_fields-then-c-ge26.ensures ∙ sym (left-stop
+    (entries c.args.count c.args.table.now) c.loop-i.next c.loop-i.f c.args.s.now c.loop-i.i
     c.place-e.result c.place-e.ensures.0 (omega arith) c.read_piece-x.result c.read_piece-x.ensures _ refl
     (ap (λ (f : Fields). f.ok) (add_none _ _ (omega (arith, k, c.if-c-ge26.true)))))
     ∙ c.loop-i.invariant.2
@@ -54,7 +59,8 @@ loop-i-preserved c =
     _ refl (ap (λ (f : Fields). f.ok) (sym added) ∙ l.invariant.1) in (
       omega arith,
       l.invariant.1,
-      ap₂ (λ (f : Fields) (j : ℕ). left (entries c.args.count c.args.table.now) (j + 1) f (pieces 41 (drop (p.result + 1) s))) added k ∙ sym went ∙ l.invariant.2,
+      ap₂ (λ (f : Fields) (j : ℕ). left (entries c.args.count c.args.table.now) (j + 1) f
+          (pieces 41 (drop (p.result + 1) s))) added k ∙ sym went ∙ l.invariant.2,
     )
 
 pub returns : goal.returns

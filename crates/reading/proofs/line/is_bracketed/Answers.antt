@@ -7,7 +7,7 @@ pub returns-then-s-lt2 : goal.returns-then-s-lt2
 returns-then-s-lt2 c = brackets-short _ c.if-s-lt2.true
 
 pub returns-then-s-gt1024 : goal.returns-then-s-gt1024
-returns-then-s-gt1024 c = brackets-long _ c.if-s-gt1024.true
+returns-then-s-gt1024 c = brackets-long _ (omega arith)
 
 pub returns-then-s-ne40 : goal.returns-then-s-ne40
 returns-then-s-ne40 c = brackets-open _ c.if-s-ne40.true

@@ -6,8 +6,7 @@ use lib.ListN.{take, drop}
 use native.Mathlib.Omega.{arith}
 use Rattle.reading.specs.Form.{read_fields}
 use Rattle.reading.specs.Line.{call_by, preview_line, form_in}
-use Rattle.reading.proofs.Laws.Text.{rest_of}
-use Rattle.reading.proofs.Laws.Line.{preview-ten, line-preview, line-call}
+use Rattle.reading.proofs.Laws.Line.{preview-ten, between-preview, between-line, line-preview, line-call}
 use Rattle.reading.proofs.line.read_line.Goals as goal
 use Rattle.reading.proofs.line.read_line.Goals.{then-preview, else-preview}
 
@@ -38,14 +37,11 @@ slice_bounds-read_call-end c =
 pub returns-then-preview-2 : goal.returns-then-preview-2
 returns-then-preview-2 c =
     let s = c.args.s.now in
-    -- what is between the bounds: a preview's form, or the line
-    let between : take (c.if-preview.to - c.if-preview.from) (drop c.if-preview.from s) ≡ cond c.is_preview-preview.result (form_in s) s
+    let between : take (c.if-preview.to - c.if-preview.from) (drop c.if-preview.from s) ≡ cond c.is_preview-preview.result
+    (form_in s) s
     = elim c.if-preview.branch [
-      | then-preview w ↦
-          (λ i. take (w.to-is i - w.from-is i) (drop (w.from-is i) s)) ∙ ap (λ (b : Bool). cond b (form_in s) s) (sym w.if-preview.true)
-      | else-preview w ↦
-          (λ i. take (w.to-is i - w.from-is i) (drop (w.from-is i) s)) ∙ rest_of s 0
-          ∙ ap (λ (b : Bool). cond b (form_in s) s) (sym w.if-preview.false)
+      | then-preview w ↦ between-preview s w.if-preview.true w.from-is w.to-is
+      | else-preview w ↦ between-line s w.if-preview.false w.from-is w.to-is
     ] in
     c.preview_line.ensures
     ∙ ap preview_line
@@ -56,13 +52,11 @@ returns-then-preview-2 c =
 pub returns : goal.returns
 returns c =
     let s = c.args.s.now in
-    let between : take (c.if-preview.to - c.if-preview.from) (drop c.if-preview.from s) ≡ cond c.is_preview-preview.result (form_in s) s
+    let between : take (c.if-preview.to - c.if-preview.from) (drop c.if-preview.from s) ≡ cond c.is_preview-preview.result
+    (form_in s) s
     = elim c.if-preview.branch [
-      | then-preview w ↦
-          (λ i. take (w.to-is i - w.from-is i) (drop (w.from-is i) s)) ∙ ap (λ (b : Bool). cond b (form_in s) s) (sym w.if-preview.true)
-      | else-preview w ↦
-          (λ i. take (w.to-is i - w.from-is i) (drop (w.from-is i) s)) ∙ rest_of s 0
-          ∙ ap (λ (b : Bool). cond b (form_in s) s) (sym w.if-preview.false)
+      | then-preview w ↦ between-preview s w.if-preview.true w.from-is w.to-is
+      | else-preview w ↦ between-line s w.if-preview.false w.from-is w.to-is
     ] in
     c.read_call-l.ensures
     ∙ ap (call_by read_fields) (between ∙ ap (λ (b : Bool). cond b (form_in s) s) c.if-preview-2.false)

@@ -16,13 +16,19 @@ pub returns-then-is_entry : goal.returns-then-is_entry
 returns-then-is_entry c =
     let a = c.args in
     let n = entries-length a.count a.table.now in
-    sym (column-found _ _ c.loop-c.c c.loop-c.c (omega arith) (ap (same_bytes a.s.now) (entries_at a.count a.table.now c.loop-c.c (omega arith)) ∙ sym c.is_entry.ensures ∙ c.if-is_entry.true)) ∙ c.loop-c.invariant
+    let tested =
+    ap (same_bytes a.s.now) (entries_at a.count a.table.now c.loop-c.c (omega arith)) ∙ sym c.is_entry.ensures
+    ∙ c.if-is_entry.true in
+    sym (column-found _ _ c.loop-c.c c.loop-c.c (omega arith) tested) ∙ c.loop-c.invariant
 
 pub loop-c-preserved : goal.loop-c-preserved
 loop-c-preserved c =
     let a = c.args in
     let n = entries-length a.count a.table.now in
-    sym (column-next _ _ c.loop-c.c c.loop-c.c (omega arith) (ap (same_bytes a.s.now) (entries_at a.count a.table.now c.loop-c.c (omega arith)) ∙ sym c.is_entry.ensures ∙ c.if-is_entry.false)) ∙ c.loop-c.invariant
+    let tested =
+    ap (same_bytes a.s.now) (entries_at a.count a.table.now c.loop-c.c (omega arith)) ∙ sym c.is_entry.ensures
+    ∙ c.if-is_entry.false in
+    sym (column-next _ _ c.loop-c.c c.loop-c.c (omega arith) tested) ∙ c.loop-c.invariant
 
 pub returns : goal.returns
 returns c =

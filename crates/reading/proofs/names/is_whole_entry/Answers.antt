@@ -16,4 +16,5 @@ returns c =
     let a = c.args in
     let four : 4 * a.c + 4 - 4 * a.c ≡ 4 = omega arith in
     c.same.ensures
-    ∙ ap (same_bytes a.s.now) (up_to-place 32 _ c.place-k.result c.place-k.ensures.0 ∙ ap (λ (m : ℕ). up_to 32 (take m (drop (4 * a.c) a.table.now))) four)
+    ∙ ap (same_bytes a.s.now) (up_to-place 32 _ c.place-k.result c.place-k.ensures.0 ∙ ap
+    (λ (m : ℕ). up_to 32 (take m (drop (4 * a.c) a.table.now))) four)

@@ -11,13 +11,19 @@ pub returns-then-b-gt57 : goal.returns-then-b-gt57
 returns-then-b-gt57 c = let l = c.loop-i in sym (high-at c.args.s.now l.n l.i (omega arith) (omega arith)) ∙ l.invariant.2
 
 pub returns-then-n-gt1844674407370955161 : goal.returns-then-n-gt1844674407370955161
-returns-then-n-gt1844674407370955161 c = let l = c.loop-i in sym (large-at c.args.s.now l.n l.i (omega arith) (omega arith)) ∙ l.invariant.2
+returns-then-n-gt1844674407370955161 c = let l = c.loop-i in sym (large-at c.args.s.now l.n l.i (omega arith) (omega arith))
+    ∙ l.invariant.2
 
 pub returns-then-d-n : goal.returns-then-d-n
 returns-then-d-n c = let l = c.loop-i in sym (large-at c.args.s.now l.n l.i (omega arith) (omega arith)) ∙ l.invariant.2
 
 pub loop-i-preserved : goal.loop-i-preserved
-loop-i-preserved c = let l = c.loop-i in (omega arith, omega arith, sym (digit_at c.args.s.now l.n l.i (omega arith) (omega arith) (omega arith)) ∙ l.invariant.2)
+loop-i-preserved c = let l = c.loop-i in (
+  omega arith,
+  omega arith,
+  sym
+      (digit_at c.args.s.now l.n l.i (omega arith) (omega arith) (omega arith)) ∙ l.invariant.2,
+)
 
 pub returns : goal.returns
 returns c = let l = c.loop-i in sym (digits-end c.args.s.now l.n l.i (omega arith) (omega arith)) ∙ l.invariant.2

@@ -13,8 +13,7 @@ read_finding-r-requires c = scales-le c.loop-i.i
 pub returns-then-r-ne0 : goal.returns-then-r-ne0
 returns-then-r-ne0 c =
     let l = c.loop-i in
-    let bad = c.if-r-ne0.true in
-    read-stop _ (search rules) l.invariant (search rules) _ _ c.read_finding-r.ensures bad c.refused_counts.ensures
+    read-stop _ (search rules) l.invariant (search rules) _ _ c.read_finding-r.ensures (λ z. omega arith) c.refused_counts.ensures
 
 pub overflow_add-missing : goal.overflow_add-missing
 overflow_add-missing c =

@@ -19,12 +19,12 @@ unfolding of_bits
 returns-then-field-lt255 c =
     let a = c.args in
     c.count_fields.ensures
-    ∙ bits-counted a.x a.scale a.ceiling (subst T (sym c.well_formed.0.1) tt) c.if-x.true c.if-field-lt255.true
+    ∙ bits-counted a.x a.scale a.ceiling (subst T (sym c.well_formed.0.1) tt) c.if-x.true (omega arith)
 
 pub returns-else-field-lt255 : goal.returns-else-field-lt255
 returns-else-field-lt255 c =
     let a = c.args in
-    bits-uncounted a.x a.scale a.ceiling (subst T (sym c.well_formed.0.1) tt) c.if-field-lt255.false
+    bits-uncounted a.x a.scale a.ceiling (subst T (sym c.well_formed.0.1) tt) (omega arith)
 
 pub returns-else-x : goal.returns-else-x
 unfolding of_bits

@@ -8,4 +8,5 @@ use borrow.Author.Tests.{le-ltb}
 use Rattle.test_sheets.proofs.write.float.Goals as goal
 
 pub float_from_bits-result : goal.float_from_bits-result
-float_from_bits-result c = subst (λ (b : Bool). T (not b)) (sym (nan_bits_above binary32 _ ∙ le-ltb _ _ c.if-bits-le2139095040.true)) tt
+float_from_bits-result c = subst (λ (b : Bool). T (not b))
+    (sym (nan_bits_above binary32 _ ∙ le-ltb _ _ c.if-bits-le2139095040.true)) tt

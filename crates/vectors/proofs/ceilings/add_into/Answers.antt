@@ -14,7 +14,8 @@ pub loop-i-preserved : goal.loop-i-preserved
 loop-i-preserved c =
     let l = c.loop-i in
     let a = c.args in
-    filled_more 0 _ l.invariant (search rules) (rw (filled_at 0 l.invariant (search rules)) (sym (added-column a.dst.now a.src.now l.i)))
+    filled_more 0 _ l.invariant (search rules) (rw (filled_at 0 l.invariant (search rules))
+    (sym (added-column a.dst.now a.src.now l.i)))
 
 pub returns : goal.returns
 returns c = filled-all c.loop-i.invariant (search rules)

@@ -17,8 +17,11 @@ loop-i-preserved c =
     let a = c.args in
     let l = c.loop-i in
     let p = c.requires in
-    let n = added-length a.a.now a.b.now (p.1 ∙ sym p.0) in
-    (l.invariant.0 ∙ within_step _ _ l.i (n ∙ p.0) (omega arith) (omega (arith, added-column c.args.a.now c.args.b.now c.loop-i.i)), search rules)
+    let n = added-length a.a.now a.b.now (p.1 ∙ sym p.0) in (
+      l.invariant.0 ∙ within_step _ _ l.i (n ∙ p.0) (omega arith)
+          (omega (arith, added-column c.args.a.now c.args.b.now c.loop-i.i)),
+      search rules,
+    )
 
 pub returns : goal.returns
 returns c =

@@ -9,4 +9,5 @@ pub weighed-requires : goal.weighed-requires
 weighed-requires c = (search rules, omega (arith, digester_cod-weigh c.args.d, digester_cod-le c.args.d c.requires))
 
 pub returns : goal.returns
-returns c = let e = c.weighed.ensures ∙ sym (digester_cod-weigh c.args.d) in (e, omega (arith, e, digester_cod-le c.args.d c.requires))
+returns c = let e = c.weighed.ensures ∙ sym (digester_cod-weigh c.args.d) in
+    (e, omega (arith, e, digester_cod-le c.args.d c.requires))

@@ -11,8 +11,11 @@ use Rattle.vectors.proofs.totals.digester_tkn.Goals as goal
 pub weighed-requires : goal.weighed-requires
 weighed-requires c =
     let f = c.args.f in
-    let v = c.args.d in
-    (search rules, rw c.digester_fractions-w.ensures (omega (arith, digester_tkn-weigh f v, digester_tkn-le f v c.requires.0 c.requires.1)))
+    let v = c.args.d in (
+      search rules,
+      rw c.digester_fractions-w.ensures
+          (omega (arith, digester_tkn-weigh f v, digester_tkn-le f v c.requires.0 c.requires.1)),
+    )
 
 pub returns : goal.returns
 returns c =

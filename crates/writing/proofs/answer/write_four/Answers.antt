@@ -13,7 +13,15 @@ returns c =
     let three = c.put_labelled-k in
     let four = c.put_labelled-l in
     let end = c.put_bytes in
-    let within : end.result ≤ 512 = omega (arith, end.ensures.next, four.ensures.1, three.ensures.1, two.ensures.1, one.ensures.1, c.requires) in
+    let within : end.result ≤ 512 = omega (
+      arith,
+      end.ensures.next,
+      four.ensures.1,
+      three.ensures.1,
+      two.ensures.1,
+      one.ensures.1,
+      c.requires,
+    ) in
     let room = c.requires.0 in
     let from-four = put_then four.ensures.0 end.ensures (omega (arith, within, room, one.auto, two.auto, three.auto)) in
     let from-three = put_then three.ensures.0 from-four (omega (arith, within, room, one.auto, two.auto)) in

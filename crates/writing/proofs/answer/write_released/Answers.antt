@@ -6,4 +6,5 @@ use Rattle.writing.proofs.answer.write_released.Goals as goal
 
 pub returns : goal.returns
 unfolding released_text
-returns c = answered (put_then c.put_bytes-a.ensures (put_then c.put_columns-b.ensures.0 c.put_bytes.ensures (omega arith)) (omega arith)) (omega arith)
+returns c = answered (put_then c.put_bytes-a.ensures (put_then c.put_columns-b.ensures.0 c.put_bytes.ensures (omega arith))
+    (omega arith)) (omega arith)

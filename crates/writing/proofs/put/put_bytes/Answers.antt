@@ -18,7 +18,8 @@ loop-i-preserved c =
     let a = c.args in (
       omega arith,
       simp length-set l.invariant.1,
-      ap (λ (b : List ℕ). set b (a.at + l.i) (get_or a.s.now l.i 0)) l.invariant.2 ∙ put-more a.buf.now a.at a.s.now l.i (omega arith) (omega arith),
+      ap (λ (b : List ℕ). set b (a.at + l.i) (get_or a.s.now l.i 0)) l.invariant.2 ∙ put-more a.buf.now a.at a.s.now l.i
+          (omega arith) (omega arith),
     )
 
 pub returns : goal.returns

@@ -6,7 +6,8 @@ use Rattle.writing.specs.Buffer.{put_at}
 use Rattle.writing.proofs.put.put_bytes.Given as goal
 
 abbrev pub invariant-loop-i : goal.invariant-loop-i
-invariant-loop-i l = (l.i ≤ length l.s) × (length l.buf ≡ length l.initial.buf) × (l.buf ≡ put_at l.initial.buf l.at (take l.i l.s))
+invariant-loop-i l = (l.i ≤ length l.s) × (length l.buf ≡ length l.initial.buf) ×
+    (l.buf ≡ put_at l.initial.buf l.at (take l.i l.s))
 
 abbrev pub decreases-loop-i : goal.decreases-loop-i
 decreases-loop-i l = length l.s - l.i

@@ -6,4 +6,8 @@ use Rattle.writing.proofs.put.put_column.Goals as goal
 
 pub returns : goal.returns
 unfolding column_text
-returns c = (put_then c.put_bytes-a.ensures (put_then c.put_name-b.ensures.0 (put_then c.put_labelled-d.ensures.0 c.put_bytes.ensures (omega arith)) (omega arith)) (omega arith), omega arith)
+returns c = (
+  put_then c.put_bytes-a.ensures (put_then c.put_name-b.ensures.0
+      (put_then c.put_labelled-d.ensures.0 c.put_bytes.ensures (omega arith)) (omega arith)) (omega arith),
+  omega arith,
+)

@@ -22,7 +22,8 @@ loop-c-preserved c =
     let l = c.loop-c in
     let a = c.args in
     let name = sludge-name l.c (omega arith) in
-    let p = subst (λ (s : List ℕ). Put l.buf l.i (column_text s (get_or a.v l.c 0)) c.put_column-i.result c.put_column-i.new.buf) name c.put_column-i.ensures.0 in
+    let p = subst (λ (s : List ℕ). Put l.buf l.i (column_text s
+    (get_or a.v l.c 0)) c.put_column-i.result c.put_column-i.new.buf) name c.put_column-i.ensures.0 in
     (omega arith, omega arith, omega arith, columns-then (names_of Sludge) l.c a.v l.invariant.3 p (omega arith))
 
 pub returns : goal.returns
