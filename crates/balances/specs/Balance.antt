@@ -6,7 +6,7 @@
 --   after        the record after a list, each entry on the record that the one before returned
 --   sum_over     a number that each call and its outcome give, added up over the list; previews are skipped
 --   sheet_adds   what a sheet adds to it: a sheet is a receive of its counts, one with a bad column nothing
---   accepted     an answer that tells no refusal
+--   accepted     an answer that is no refusal
 --   counts       what a call counts for: a receive takes its vector in, a release hands one out, a settle
 --                                           lets gas go; of the others, recycles among them, only what they tell is counted
 --   received, released                      a total of the vectors handed to accepted receives and of the counts of accepted sheets, and
@@ -26,7 +26,7 @@
 --
 -- A list holds everything that is handed to its calls, previews and sheets: any k, any gas, any vector and any entries of any length,
 -- honest or not. Its sums are whole numbers without a ceiling.
-use Rattle.std.specs.Prelude.{Bool, true, false, cond, List, [], ◌∷◌, ◌≡◌, ℕ, ◌+◌, eqb}
+use Rattle.std.specs.Prelude.{Bool, true, false, cond, List, [], ◌∷◌, ◌≡◌, ℕ, ◌+◌, Float, is_none}
 use Rattle.vectors.specs.declared.figures.Figures.{Figures}
 use Rattle.vectors.specs.Figures.{Permitted}
 use Rattle.vectors.specs.Totals.{asm1_cod, asm1_tkn, asm1_oxygen, asm1_nitrate}
@@ -37,7 +37,7 @@ use Rattle.plant.specs.declared.answer.Call.TheVariants as call
 use Rattle.plant.specs.declared.answer.Request.{Request}
 use Rattle.plant.specs.declared.answer.Outcome.{Outcome}
 use Rattle.plant.specs.Record.{fresh_plant}
-use Rattle.plant.specs.Answer.{told}
+use Rattle.plant.specs.Answer.{refused_with, told}
 use Rattle.plant.specs.Calls.{step, preview_of, receiving, recycling}
 use Rattle.plant.specs.Tanks.{cod_in, tkn_in, oxygen_in, nitrate_in}
 use Rattle.sheets.specs.declared.finding.Finding.{Finding}
@@ -48,7 +48,7 @@ use Rattle.sheets.specs.Sheet.{refusal_in, counts_of, sheet_step}
 pub data Entry : Type 0 where
   calls : Request → Entry
   previews : Request → Entry
-  sheets : List Finding → Entry
+  sheets : List (Finding Float) → Entry
 
 -- a call or a preview, by whether it is a preview
 abbrev pub entry : Bool → Request → Entry
@@ -61,8 +61,8 @@ after f p (previews r ∷ es) = after f (preview_of f p r).plant es
 after f p (sheets s ∷ es) = after f (sheet_step f p s).plant es
 
 -- a sheet of which no column is bad adds what the receive of its counts adds
-abbrev pub sheet_adds : (Request → Outcome → ℕ) → Figures → Plant → List Finding → ℕ
-sheet_adds of f p s = let r = receiving (counts_of s) in cond (eqb (refusal_in s) 0) (of r (step f p r)) 0
+abbrev pub sheet_adds : (Request → Outcome → ℕ) → Figures → Plant → List (Finding Float) → ℕ
+sheet_adds of f p s = let r = receiving (counts_of s) in cond (is_none (refusal_in s)) (of r (step f p r)) 0
 
 abbrev pub sum_over : (Request → Outcome → ℕ) → Figures → Plant → List Entry → ℕ
 sum_over of f p [] = 0
@@ -73,7 +73,7 @@ sum_over of f p (sheets s ∷ es) = sheet_adds of f p s + sum_over of f (sheet_s
 -- ---- what one call adds to the sums, by the call and its answer alone
 
 abbrev pub accepted : Answer → Bool
-accepted a = eqb (told a).number 0
+accepted a = is_none (refused_with a)
 
 -- what an accepted call counts for: whether the vector that it is handed is received, whether the one that it hands out is released,
 -- and a gas COD
@@ -171,7 +171,7 @@ abbrev pub sheets_as_calls : List Entry → List Entry
 sheets_as_calls [] = []
 sheets_as_calls (calls r ∷ es) = calls r ∷ sheets_as_calls es
 sheets_as_calls (previews r ∷ es) = previews r ∷ sheets_as_calls es
-sheets_as_calls (sheets s ∷ es) = cond (eqb (refusal_in s) 0) (calls (receiving (counts_of s)) ∷ sheets_as_calls es) (sheets_as_calls es)
+sheets_as_calls (sheets s ∷ es) = cond (is_none (refusal_in s)) (calls (receiving (counts_of s)) ∷ sheets_as_calls es) (sheets_as_calls es)
 
 abbrev pub SheetLaw : Type 0
 SheetLaw = (f : Figures) (p : Plant) (es : List Entry) → SameList f p es (sheets_as_calls es)

@@ -6,7 +6,7 @@
 --   other_tkn                  the TKN of all columns but sin
 --   closing_sin, closing_gas   TKN old − that of the other columns, and COD old − COD new
 --   gap_between, gap_of        COD too much, nitrogen too much, and how far the sin that closes is above its ceiling
---   close_tests, close_of      the refusals of close in the order in which they are tested, and its outcome
+--   close_tests, close_of      the tests of close behind the gap's, in their order, and its outcome
 --   SameBut                    two vectors differ in sin, co and cn at most
 --   CloseLaw                   where close is accepted, settle accepts what it gives, and only sin, co and cn have changed
 --   NoneLaw                    where it is refused with 7, 8, or 3 for the sin that closes, no gas, sin, co and cn would do
@@ -15,7 +15,10 @@
 --
 -- proofs/Laws/Closing.antt proves the four laws: close-law, none-law, only-law, gap-law. f is the set of figures; the code has the house
 -- set.
-use Rattle.std.specs.Prelude.{true, cond, List, [], ◌∷◌, ◌≡◌, ℕ, ◌-◌, eqb, length}
+use Rattle.std.specs.Prelude.{true, List, [], ◌∷◌, ◌≡◌, ℕ, ◌-◌, eqb, length, Option, Result, Ok, Err}
+use Rattle.refusals.specs.declared.Refusal.{Refusal}
+use Rattle.refusals.specs.declared.Refusal.TheVariants.{RecordAbove, ColumnAbove, CodOpen, TknOpen}
+use Rattle.refusals.specs.Tests.{unless, first, decide}
 use Rattle.vectors.specs.declared.figures.Figures.{Figures}
 use Rattle.vectors.specs.declared.units.Milligrams.{Milligrams}
 use Rattle.vectors.specs.Columns.{Digester, digester, digester_columns, digester_ceilings, tick_ceiling, within}
@@ -23,7 +26,6 @@ use Rattle.vectors.specs.Totals.{digester_cod, digester_tkn, digester_oxygen, di
 use Rattle.vectors.specs.Units.{milligrams, ticks}
 use Rattle.plant.specs.declared.record.Plant.{Plant}
 use Rattle.plant.specs.Record.{record_within}
-use Rattle.plant.specs.Answer.{unless, first}
 use Rattle.plant.specs.Calls.{refusal_for, settling}
 use Rattle.closing.specs.declared.Closed.{Closed}
 use Rattle.closing.specs.declared.Gaps.{Gaps}
@@ -85,44 +87,44 @@ closed_vector f old d = replaced d (closing_sin f old d) (digester_oxygen old) (
 
 -- ---- the gap
 
-abbrev pub gaps : ℕ → ℕ → ℕ → ℕ → Gaps
-gaps n cod tkn sin = record { refusal = n; cod = milligrams cod; tkn = ticks tkn; sin = ticks sin }
+abbrev pub gaps : ℕ → ℕ → ℕ → Gaps
+gaps cod tkn sin = record { cod = milligrams cod; tkn = ticks tkn; sin = ticks sin }
 
 abbrev pub no_gap : Gaps
-no_gap = gaps 0 0 0 0
+no_gap = gaps 0 0 0
 
 -- A difference below zero counts as zero.
 unfoldable pub gap_between : Figures → List ℕ → List ℕ → Gaps
 gap_between f old d =
-    gaps 0 (digester_cod d - digester_cod old) (other_tkn f d - digester_tkn f old) (closing_sin f old d - tick_ceiling)
+    gaps (digester_cod d - digester_cod old) (other_tkn f d - digester_tkn f old) (closing_sin f old d - tick_ceiling)
 
-abbrev pub gap_tests : Plant → List ℕ → List ℕ
-gap_tests p d = unless (record_within p) 1 ∷ unless (within digester_ceilings d) 3 ∷ []
+abbrev pub gap_tests : Plant → List ℕ → List (Option Refusal)
+gap_tests p d = unless (record_within p) RecordAbove ∷ unless (within digester_ceilings d) ColumnAbove ∷ []
 
-unfoldable pub gap_of : Figures → Plant → List ℕ → Gaps
-gap_of f p d = let n = first (gap_tests p d) in cond (eqb n 0) (gap_between f p.digester d) (gaps n 0 0 0)
+unfoldable pub gap_of : Figures → Plant → List ℕ → Result Gaps Refusal
+gap_of f p d = decide (first (gap_tests p d)) (gap_between f p.digester d)
 
 -- ---- close
 
--- as the gap's; then 3 where the sin that closes is above its ceiling, 7 where COD new is above COD old, 8 where the other columns hold
--- more nitrogen than there is
-abbrev pub close_tests : Gaps → List ℕ
+-- behind the gap's tests: 3 where the sin that closes is above its ceiling, 7 where COD new is above COD old, 8 where the other columns
+-- hold more nitrogen than there is
+abbrev pub close_tests : Gaps → List (Option Refusal)
 close_tests g =
-    g.refusal
-    ∷ unless (eqb g.sin.0 0) 3
-    ∷ unless (eqb g.cod.0 0) 7
-    ∷ unless (eqb g.tkn.0 0) 8
+    unless (eqb g.sin.0 0) ColumnAbove
+    ∷ unless (eqb g.cod.0 0) CodOpen
+    ∷ unless (eqb g.tkn.0 0) TknOpen
     ∷ []
 
--- a refusal leaves the proposal as it is
-abbrev pub close_refused : ℕ → List ℕ → Closed
-close_refused n d = record { refusal = n; gas = milligrams 0; vector = d }
-
 abbrev pub close_taken : Figures → List ℕ → List ℕ → Closed
-close_taken f old d = record { refusal = 0; gas = milligrams (closing_gas old d); vector = closed_vector f old d }
+close_taken f old d = record { gas = milligrams (closing_gas old d); vector = closed_vector f old d }
 
-unfoldable pub close_of : Figures → Plant → List ℕ → Closed
-close_of f p d = let n = first (close_tests (gap_of f p d)) in cond (eqb n 0) (close_taken f p.digester d) (close_refused n d)
+-- by the gap
+abbrev pub close_by : Result Gaps Refusal → Closed → Result Closed Refusal
+close_by (Ok g) c = decide (first (close_tests g)) c
+close_by (Err r) c = Err r
+
+unfoldable pub close_of : Figures → Plant → List ℕ → Result Closed Refusal
+close_of f p d = close_by (gap_of f p d) (close_taken f p.digester d)
 
 -- ---- the claims
 
@@ -131,7 +133,7 @@ pub record Closes (f : Figures) (p : Plant) (d : List ℕ) (c : Closed) : Type 0
   pub keeps : SameBut c.vector d
 
 abbrev pub CloseLaw : Type 0
-CloseLaw = (f : Figures) (p : Plant) (d : List ℕ) → (close_of f p d).refusal ≡ 0 → Closes f p d (close_of f p d)
+CloseLaw = (f : Figures) (p : Plant) (d : List ℕ) (c : Closed) → close_of f p d ≡ Ok c → Closes f p d c
 
 -- the record and the proposed columns are within their ceilings, so that a refusal is 7, 8, or 3 for the sin that closes
 abbrev pub NoneLaw : Type 0
@@ -139,7 +141,8 @@ NoneLaw =
     (f : Figures) (p : Plant) (d : List ℕ)
     → record_within p ≡ true
     → within digester_ceilings d ≡ true
-    → ((close_of f p d).refusal ≡ 0 → ⊥)
+    → (r : Refusal)
+    → close_of f p d ≡ Err r
     → (gas : Milligrams) (e : List ℕ)
     → SameBut e d
     → refusal_for f p (settling gas e) ≡ 0
@@ -153,11 +156,11 @@ OnlyLaw =
     → length e ≡ 26
     → SameBut e d
     → refusal_for f p (settling gas e) ≡ 0
-    → close_of f p d ≡ record { refusal = 0; gas = gas; vector = e }
+    → close_of f p d ≡ Ok (record { gas = gas; vector = e })
 
 pub record GapIs (f : Figures) (p : Plant) (d : List ℕ) : Type 0 where
-  pub none : (close_of f p d).refusal ≡ 0 → gap_of f p d ≡ no_gap
-  pub closes : gap_of f p d ≡ no_gap → (close_of f p d).refusal ≡ 0
+  pub none : (c : Closed) → close_of f p d ≡ Ok c → gap_of f p d ≡ Ok no_gap
+  pub closes : gap_of f p d ≡ Ok no_gap → close_of f p d ≡ Ok (close_taken f p.digester d)
 
 abbrev pub GapLaw : Type 0
 GapLaw = (f : Figures) (p : Plant) (d : List ℕ) → GapIs f p d

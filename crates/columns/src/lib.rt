@@ -4,4 +4,4 @@
 
 mod columns;
 
-pub use columns::{Asm1, Digester, asm1_array, asm1_of, digester_array, digester_of};
+pub use columns::{Asm1, Digester};

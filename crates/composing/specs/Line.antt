@@ -1,6 +1,6 @@
 -- A call as a line: document 02, E5.
 --
---   field_text, fields_from, fields_text   a column, left away where it is zero, and the columns of a vector in order
+--   fields_from, fields_text               the columns of a vector in order, left away where they are zero
 --   receive_text, settle_text, call_text   a call in its brackets, with the vector that it takes
 --   entry_text                             the same, or a preview of it
 --   asked                                  what a line with the call is read as: the vector that it does not take is zero
@@ -13,7 +13,7 @@
 --   TextNoZeroLaw                       the text of a call names none. proofs/Laws/Line.antt proves it: entry-no-zero
 --   TextLengthLaw                       it has at most 1,024 bytes: entry-length
 --   TextLineLaw                         no newline stands in it: entry-one
-use Rattle.std.specs.Prelude.{Bool, true, cond, not, ◌&&◌, List, [], ◌∷◌, ◌++◌, ◌≡◌, ℕ, ◌+◌, ◌≤◌, eqb, length, get_or, replicate}
+use Rattle.std.specs.Prelude.{Bool, true, false, cond, not, ◌&&◌, Option, List, [], ◌∷◌, ◌++◌, ◌≡◌, ℕ, ◌≤◌, eqb, length, get_or, replicate}
 use Rattle.vectors.specs.declared.figures.Figures.{Figures}
 use Rattle.plant.specs.declared.record.Plant.{Plant}
 use Rattle.plant.specs.declared.answer.Call.{Call}
@@ -21,25 +21,20 @@ use Rattle.plant.specs.declared.answer.Call.TheVariants.{Receive, Feed, Settle, 
 use Rattle.plant.specs.declared.answer.Request.{Request}
 use Rattle.plant.specs.Calls.{outcome_by}
 use Rattle.reading.specs.declared.names.Vector.TheVariants.{Sludge, Digester}
-use Rattle.reading.specs.declared.form.Form.TheVariants.{Asked}
-use Rattle.reading.specs.declared.form.Line.{Line}
+use Rattle.reading.specs.declared.form.Asked.{Asked}
 use Rattle.reading.specs.Text.{ascii, one_line, pieces, closing}
 use Rattle.reading.specs.Number.{largest}
 use Rattle.reading.specs.Names.{names_of}
 use Rattle.reading.specs.Form.{line_of, bare, from_fields, number_in}
 use Rattle.reading.specs.Line.{bracketed, preview_text, passes, read_line}
-use Rattle.writing.specs.Answer.{labelled, column_text}
+use Rattle.writing.specs.Answer.{labelled, columns_from}
 use Rattle.lines.specs.Asking.{line_outcome}
 
 -- ---- the text
 
-unfoldable pub field_text : List ℕ → ℕ → List ℕ
-field_text name n = cond (eqb n 0) [] (column_text name n)
-
--- the columns of v from c on, which have these names
-unfoldable pub fields_from : ℕ → List (List ℕ) → List ℕ → List ℕ
-fields_from c [] v = []
-fields_from c (name ∷ names) v = field_text name (get_or v c 0) ++ fields_from (c + 1) names v
+-- the columns of v from c on, which have these names; those that are zero are left away
+abbrev pub fields_from : ℕ → List (List ℕ) → List ℕ → List ℕ
+fields_from c names v = columns_from false c names v
 
 abbrev pub fields_text : List (List ℕ) → List ℕ → List ℕ
 fields_text names v = fields_from 0 names v
@@ -65,15 +60,15 @@ entry_text b r = let t = call_text r.call r.sludge r.digester in cond b (preview
 
 -- ---- reading it
 
-abbrev pub asked_by : Bool → Call → List ℕ → List ℕ → Line
-asked_by b Receive v d = line_of (Asked Receive b) v (replicate 26 0)
-asked_by b (Feed k) v d = bare (Asked (Feed k) b)
-asked_by b (Settle g) v d = line_of (Asked (Settle g) b) (replicate 13 0) d
-asked_by b (Return k) v d = bare (Asked (Return k) b)
-asked_by b (Release k) v d = bare (Asked (Release k) b)
-asked_by b (Recycle k) v d = bare (Asked (Recycle k) b)
+abbrev pub asked_by : Bool → Call → List ℕ → List ℕ → Option Asked
+asked_by b Receive v d = line_of Receive b v (replicate 26 0)
+asked_by b (Feed k) v d = bare (Feed k) b
+asked_by b (Settle g) v d = line_of (Settle g) b (replicate 13 0) d
+asked_by b (Return k) v d = bare (Return k) b
+asked_by b (Release k) v d = bare (Release k) b
+asked_by b (Recycle k) v d = bare (Recycle k) b
 
-abbrev pub asked : Bool → Request → Line
+abbrev pub asked : Bool → Request → Option Asked
 asked b r = asked_by b r.call r.sludge r.digester
 
 -- a call's own number, 0 where it has none

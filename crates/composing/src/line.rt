@@ -1,37 +1,29 @@
 // A call's line and its newline. They stand first in the lent buffer, and the bytes behind them keep their values.
-ghost use Rattle.std.specs.Prelude.{◌++◌, ◌≡◌, ◌≤◌, length};
+ghost use Rattle.std.specs.Prelude.{false, ◌++◌, ◌≡◌, ◌+◌, ◌*◌, ◌≤◌, length};
 ghost use Rattle.reading.specs.Text.{ascii};
-ghost use Rattle.writing.specs.Buffer.{Put};
-ghost use Rattle.writing.specs.Answer.{labelled};
-ghost use Rattle.composing.specs.Line.{receive_text, settle_text, call_text, entry_text};
+ghost use Rattle.reading.specs.Names.{unpadded_all};
+ghost use Rattle.writing.specs.Page.{HasRoom, Wrote};
+ghost use Rattle.writing.specs.Answer.{columns_text};
+ghost use Rattle.composing.specs.Line.{call_text, entry_text};
 ghost use Rattle.composing.specs.Written.{written_text, LineWritten};
 
-use crate::fields::put_fields;
 use plant::{Call, Request};
-use writing::{filled_part, put_bytes, put_labelled};
+use reading::{ASM1_NAMES, DIGESTER_NAMES};
+use refusals::Refusal;
+use writing::{Page, filled_part};
 
-// The refusal of a line, 0 where there is none, and how many bytes it has with its newline.
-#[derive(Clone, Copy)]
-pub struct Written {
-    pub refusal: u64,
-    pub length: usize,
-}
-
-// Writes the line of a call with the vector that it takes, or of a preview of it, and a newline; under 12 the buffer is left as it is.
-pub fn write_line(buf: &mut [u8], r: Request, preview: bool) -> Written
+// Writes the line of a call with the vector that it takes, or of a preview of it, and a newline, and tells how many bytes there are; under
+// a refusal the buffer is left as it is.
+pub fn write_line(buf: &mut [u8], r: Request, preview: bool) -> Result<usize, Refusal>
     ensures { LineWritten buf.old preview r result buf.new }
 {
     if buf.len() < 1025 {
-        return Written {
-            refusal: 12,
-            length: 0,
-        };
+        return Err(Refusal::ShortBuffer);
     }
-    let e = put_entry(buf, r, preview);
-    Written {
-        refusal: 0,
-        length: put_bytes(buf, e, b"\n"),
-    }
+    let mut page = Page { bytes: buf, at: 0 };
+    put_entry(&mut page, r, preview);
+    page.put(b"\n");
+    Ok(page.at)
 }
 
 // The same, and hands back the part of the buffer that the line and its newline fill, shared. The buffer goes into the result, so that
@@ -39,67 +31,54 @@ pub fn write_line(buf: &mut [u8], r: Request, preview: bool) -> Written
 pub fn filled_line<'a>(buf: &'a mut [u8], r: Request, preview: bool) -> &'a [u8]
     ensures { (result.now ≡ written_text (length buf.old) preview r) × (result.ref_ptr ≡ buf.entry.ref_ptr) }
 {
-    let w = write_line(buf, r, preview);
-    filled_part(buf, w.length)
+    let n = write_line(buf, r, preview).unwrap_or(0);
+    filled_part(buf, n)
 }
 
 // A call, or a preview of it.
-fn put_entry(buf: &mut [u8], r: Request, preview: bool) -> usize
-    requires { 1025 ≤ length buf.old }
-    ensures { (Put buf.old 0 (entry_text preview r) result buf.new) × (result ≤ 1024) }
+fn put_entry(page: &mut Page, r: Request, preview: bool)
+    requires { HasRoom page.old 1024 }
+    ensures { (Wrote page.old (entry_text preview r) page.new) × (page.new.at ≤ page.old.at + 1024) }
 {
     if preview {
-        let a = put_bytes(buf, 0, b"(preview ");
-        let e = put_call(buf, a, r);
-        return put_bytes(buf, e, b")");
+        page.put(b"(preview ");
+        put_call(page, r);
+        page.put(b")");
+        return;
     }
-    put_call(buf, 0, r)
+    put_call(page, r);
 }
 
 // A call in its brackets.
-fn put_call(buf: &mut [u8], at: usize, r: Request) -> usize
-    requires { (1025 ≤ length buf.old) × (at ≤ 9) }
-    ensures { (Put buf.old at (call_text r.call r.sludge r.digester) result buf.new) × (result ≤ 1000) }
+fn put_call(page: &mut Page, r: Request)
+    requires { HasRoom page.old 1000 }
+    ensures { (Wrote page.old (call_text r.call r.sludge r.digester) page.new) × (page.new.at ≤ page.old.at + 1000) }
 {
     let call = r.call;
     let sludge = r.sludge;
     let digester = r.digester;
     match call {
-        Call::Receive => put_receive(buf, at, sludge),
-        Call::Feed(k) => put_numbered(buf, at, b"(feed ", k),
-        Call::Settle(g) => put_settle(buf, at, g.0, digester),
-        Call::Return(k) => put_numbered(buf, at, b"(return ", k),
-        Call::Release(k) => put_numbered(buf, at, b"(release ", k),
-        Call::Recycle(k) => put_numbered(buf, at, b"(recycle ", k),
+        Call::Receive => {
+            page.put(b"(receive");
+            put_fields(page, &ASM1_NAMES, &sludge);
+        }
+        Call::Feed(k) => page.told(&[(b"(feed ", k)]),
+        Call::Settle(g) => {
+            page.labelled(b"(settle ", g.0);
+            put_fields(page, &DIGESTER_NAMES, &digester);
+        }
+        Call::Return(k) => page.told(&[(b"(return ", k)]),
+        Call::Release(k) => page.told(&[(b"(release ", k)]),
+        Call::Recycle(k) => page.told(&[(b"(recycle ", k)]),
     }
 }
 
-fn put_receive(buf: &mut [u8], at: usize, v: [u64; 13]) -> usize
-    requires { (1025 ≤ length buf.old) × (at ≤ 9) }
-    ensures { (Put buf.old at (receive_text v) result buf.new) × (result ≤ 1000) }
+// The columns of a vector that are not zero, and a bracket.
+fn put_fields<const N: usize>(page: &mut Page, names: &[[u8; 4]; N], v: &[u64; N])
+    requires { HasRoom page.old (28 * N + 1) }
+    ensures text { Wrote page.old (columns_text false (unpadded_all names.now) v.now ++ ascii ")") page.new }
+    ensures bound { page.new.at ≤ page.old.at + (28 * N + 1) }
 {
-    let a = put_bytes(buf, at, b"(receive");
-    let names = b"si  ss  xi  xs  xbh xba xp  so  sno snh snd xnd salk";
-    let b = put_fields(buf, a, names, 13, &v);
-    put_bytes(buf, b, b")")
-}
-
-fn put_settle(buf: &mut [u8], at: usize, gas: u64, d: [u64; 26]) -> usize
-    requires { (1025 ≤ length buf.old) × (at ≤ 9) }
-    ensures { (Put buf.old at (settle_text gas d) result buf.new) × (result ≤ 1000) }
-{
-    let a = put_labelled(buf, at, b"(settle ", gas);
-    let names =
-        b"si  ssu saa sfa sva sbu sprosac sh2 sch4xi  xc  xch xpr xli xsu xaa xfa xc4 xproxac xh2 sin sic co  cn  ";
-    let b = put_fields(buf, a, names, 26, &d);
-    put_bytes(buf, b, b")")
-}
-
-// A call with its number alone, behind its bracket and its word.
-fn put_numbered(buf: &mut [u8], at: usize, word: &[u8], k: u64) -> usize
-    requires { (1025 ≤ length buf.old) × ((at ≤ 9) × (length word.now ≤ 10)) }
-    ensures { (Put buf.old at (labelled word.now k ++ ascii ")") result buf.new) × (result ≤ 1000) }
-{
-    let a = put_labelled(buf, at, word, k);
-    put_bytes(buf, a, b")")
+    page.columns(names, v, false);
+    page.put(b")");
 }

@@ -1,18 +1,16 @@
 // What is in the three tanks.
-ghost use Rattle.std.specs.Prelude.{◌≡◌, ◌+◌};
-ghost use Rattle.vectors.specs.Columns.{Below, asm1_ceilings, digester_ceilings};
+ghost use Rattle.std.specs.Prelude.{◌≡◌};
 ghost use Rattle.vectors.specs.Figures.{house};
-ghost use Rattle.holding.specs.Held.{held_of};
-ghost use Rattle.vectors.specs.Totals.{asm1_cod, asm1_tkn, digester_cod, digester_tkn};
-ghost use Rattle.vectors.specs.Totals.{asm1_oxygen, asm1_nitrate, digester_oxygen, digester_nitrate};
+ghost use Rattle.plant.specs.Tanks.{cod_in, tkn_in, oxygen_in, nitrate_in};
+ghost use Rattle.holding.specs.Held.{RecordBelow, held_of};
 
 use plant::{Plant, record_within};
-use vectors::{Milligrams, Ticks};
+use refusals::{Refusal, unless};
+use vectors::{HOUSE, Milligrams, Ticks, Unit};
 
-// COD, TKN, oxygen and nitrate of all three tanks, or a refusal with zeros.
+// COD, TKN, oxygen and nitrate of all three tanks.
 #[derive(Clone, Copy)]
 pub struct HeldTotals {
-    pub refusal: u64,
     pub cod: Milligrams,
     pub tkn: Ticks,
     pub oxygen: Milligrams,
@@ -20,66 +18,58 @@ pub struct HeldTotals {
 }
 
 // Refusal 1.
-pub fn held(plant: Plant) -> HeldTotals
+pub fn held(plant: Plant) -> Result<HeldTotals, Refusal>
     ensures { result ≡ held_of house plant }
 {
-    if record_within(plant) {
-        let s = plant.sludge;
-        let d = plant.digester;
-        let j = plant.reject;
-        return HeldTotals {
-            refusal: 0,
-            cod: cod_in(s, d, j),
-            tkn: tkn_in(s, d, j),
-            oxygen: oxygen_in(s, d, j),
-            nitrate: nitrate_in(s, d, j),
-        };
+    unless(record_within(plant), Refusal::RecordAbove)?;
+    let tanks = Tanks { plant };
+    Ok(HeldTotals {
+        cod: tanks.cod(),
+        tkn: tanks.tkn(),
+        oxygen: tanks.oxygen(),
+        nitrate: tanks.nitrate(),
+    })
+}
+
+// A record within its ceilings, so that the sums fit.
+#[derive(Clone, Copy)]
+struct Tanks {
+    plant: Plant,
+    ghost low: { RecordBelow plant },
+}
+
+impl Tanks {
+    fn cod(self) -> Milligrams
+        ensures { result.0 ≡ cod_in self.plant }
+    {
+        vectors::cod(self.plant.sludge)
+            .plus(vectors::cod(self.plant.digester))
+            .plus(vectors::cod(self.plant.reject))
     }
-    HeldTotals {
-        refusal: 1,
-        cod: Milligrams(0),
-        tkn: Ticks(0),
-        oxygen: Milligrams(0),
-        nitrate: Ticks(0),
+
+    fn tkn(self) -> Ticks
+        ensures { result.0 ≡ tkn_in house self.plant }
+    {
+        vectors::tkn(HOUSE, self.plant.sludge)
+            .plus(vectors::tkn(HOUSE, self.plant.digester))
+            .plus(vectors::tkn(HOUSE, self.plant.reject))
     }
-}
 
-// COD of the three tanks.
-fn cod_in(s: [u64; 13], d: [u64; 26], j: [u64; 13]) -> Milligrams
-    requires { (Below asm1_ceilings s) × ((Below digester_ceilings d) × (Below asm1_ceilings j)) }
-    ensures { result.0 ≡ asm1_cod s + digester_cod d + asm1_cod j }
-{
-    let a = vectors::asm1_cod(s);
-    let b = vectors::digester_cod(d);
-    let c = vectors::asm1_cod(j);
-    a.plus(b).plus(c)
-}
+    // so of sludge and reject, and co of the digester.
+    fn oxygen(self) -> Milligrams
+        ensures { result.0 ≡ oxygen_in self.plant }
+    {
+        Milligrams(self.plant.sludge[7])
+            .plus(Milligrams(self.plant.digester[24]))
+            .plus(Milligrams(self.plant.reject[7]))
+    }
 
-// TKN of the three tanks.
-fn tkn_in(s: [u64; 13], d: [u64; 26], j: [u64; 13]) -> Ticks
-    requires { (Below asm1_ceilings s) × ((Below digester_ceilings d) × (Below asm1_ceilings j)) }
-    ensures { result.0 ≡ asm1_tkn house s + digester_tkn house d + asm1_tkn house j }
-{
-    let a = vectors::asm1_tkn(vectors::HOUSE, s);
-    let b = vectors::digester_tkn(vectors::HOUSE, d);
-    let c = vectors::asm1_tkn(vectors::HOUSE, j);
-    a.plus(b).plus(c)
-}
-
-// Oxygen: so of sludge and reject, and co of the digester.
-fn oxygen_in(s: [u64; 13], d: [u64; 26], j: [u64; 13]) -> Milligrams
-    requires { (Below asm1_ceilings s) × ((Below digester_ceilings d) × (Below asm1_ceilings j)) }
-    ensures { result.0 ≡ asm1_oxygen s + digester_oxygen d + asm1_oxygen j }
-{
-    Milligrams(s[7])
-        .plus(Milligrams(d[24]))
-        .plus(Milligrams(j[7]))
-}
-
-// Nitrate: sno of sludge and reject, and cn of the digester.
-fn nitrate_in(s: [u64; 13], d: [u64; 26], j: [u64; 13]) -> Ticks
-    requires { (Below asm1_ceilings s) × ((Below digester_ceilings d) × (Below asm1_ceilings j)) }
-    ensures { result.0 ≡ asm1_nitrate s + digester_nitrate d + asm1_nitrate j }
-{
-    Ticks(s[8]).plus(Ticks(d[25])).plus(Ticks(j[8]))
+    // sno of sludge and reject, and cn of the digester.
+    fn nitrate(self) -> Ticks
+        ensures { result.0 ≡ nitrate_in self.plant }
+    {
+        Ticks(self.plant.sludge[8])
+            .plus(Ticks(self.plant.digester[25]))
+            .plus(Ticks(self.plant.reject[8]))
+    }
 }

@@ -1,4 +1,3 @@
 -- Laws of the host's calls.
 pub mod Record
-pub mod Calls
 pub mod Sheet

@@ -6,15 +6,20 @@
 --   Called                           a call of the record by numbers: the columns behind it and the refusal's number
 --   CalledOut                        the same, with what the call tells or hands out
 --   four_of, stripped_of             what a feed tells, and a return
+--   number_in                        the number of a refusal, or 0
 --   SheetCalled                      a laboratory sheet, with the four numbers that it tells (unseen_of)
 --   TotalsCalled                     what is in the tanks, by numbers
 --   AsmToAdmCalled, AdmToAsmCalled   the conversions of a vector by itself
 --   CloseCalled, GapCalled           a proposal closed, and how far off it is
 --
 -- cs and es are the columns before and behind the call, d and e the buffer before and behind it, ts what is told, r is the result.
-use Rattle.std.specs.Prelude.{not, List, [], ◌∷◌, ◌++◌, ◌≡◌, ℕ, eqb, length, drop}
+use Rattle.std.specs.Prelude.{not, replicate, List, [], ◌∷◌, ◌++◌, ◌≡◌, ℕ, eqb, length, drop, Float, Result, Ok, Err}
+use Rattle.std.specs.Result.{result_err}
+use Rattle.refusals.specs.declared.Refusal.{Refusal}
+use Rattle.refusals.specs.Refusal.{number_of}
 use Rattle.vectors.specs.declared.figures.Figures.{Figures}
 use Rattle.interface.specs.declared.feed.Fed.{Fed}
+use Rattle.interface.specs.declared.returning.Returned.{Returned}
 use Rattle.interface.specs.Whole.{asm_to_adm, adm_to_asm}
 use Rattle.plant.specs.Answer.{told}
 use Rattle.plant.specs.declared.answer.Outcome.{Outcome}
@@ -25,6 +30,7 @@ use Rattle.holding.specs.Held.{held_of}
 use Rattle.sheets.specs.declared.finding.Finding.{Finding}
 use Rattle.sheets.specs.declared.call.Unseen.{Unseen}
 use Rattle.sheets.specs.Sheet.{sheet_step}
+use Rattle.closing.specs.declared.Closed.{Closed}
 use Rattle.closing.specs.declared.Gaps.{Gaps}
 use Rattle.closing.specs.Closing.{close_of, gap_of}
 use Rattle.writing.specs.Buffer.{Answered}
@@ -68,52 +74,81 @@ stripped_of o = (told o.answer).stripped ∷ []
 abbrev pub vector_of : Outcome → List ℕ
 vector_of o = o.vector
 
+-- ---- calls that give a refusal or what they tell: a refusal has its number, and zeros are told beside it
+
+abbrev pub number_in : {A : Type 0} → Result A Refusal → ℕ
+number_in o = number_of (result_err o)
+
 -- ---- a laboratory sheet s
 
-abbrev pub unseen_of : Unseen → List ℕ
-unseen_of u = u.milligrams.0 ∷ u.ticks.0 ∷ u.millimoles.0 ∷ u.unsampled ∷ []
+abbrev pub unseen_of : Result Unseen Refusal → List ℕ
+unseen_of (Ok u) = u.milligrams.0 ∷ u.ticks.0 ∷ u.millimoles.0 ∷ u.unsampled ∷ []
+unseen_of (Err n) = 0 ∷ 0 ∷ 0 ∷ 0 ∷ []
 
-pub record SheetCalled (f : Figures) (cs : List ℕ) (s : List Finding) (r : ℕ) (es ts : List ℕ) : Type 0 where
+pub record SheetCalled (f : Figures) (cs : List ℕ) (s : List (Finding Float)) (r : ℕ) (es ts : List ℕ) : Type 0 where
   pub columns : es ≡ columns_at (sheet_step f (plant_at cs) s).plant
-  pub refusal : r ≡ (sheet_step f (plant_at cs) s).refusal
-  pub told : ts ≡ unseen_of (sheet_step f (plant_at cs) s).unseen
+  pub refusal : r ≡ number_in (sheet_step f (plant_at cs) s).told
+  pub told : ts ≡ unseen_of (sheet_step f (plant_at cs) s).told
 
 -- ---- what is in the tanks
 
-abbrev pub totals_of : HeldTotals → List ℕ
-totals_of h = h.cod.0 ∷ h.tkn.0 ∷ h.oxygen.0 ∷ h.nitrate.0 ∷ []
+abbrev pub totals_of : Result HeldTotals Refusal → List ℕ
+totals_of (Ok h) = h.cod.0 ∷ h.tkn.0 ∷ h.oxygen.0 ∷ h.nitrate.0 ∷ []
+totals_of (Err n) = 0 ∷ 0 ∷ 0 ∷ 0 ∷ []
 
 pub record TotalsCalled (f : Figures) (cs : List ℕ) (r : ℕ) (ts : List ℕ) : Type 0 where
-  pub refusal : r ≡ (held_of f (plant_at cs)).refusal
+  pub refusal : r ≡ number_in (held_of f (plant_at cs))
   pub told : ts ≡ totals_of (held_of f (plant_at cs))
 
--- ---- the conversions of a vector by itself: v is handed over, and w comes out
+-- ---- the conversions of a vector by itself: v is handed over, and w comes out, which has zeros under a refusal
 
-abbrev pub fed_of : Fed → List ℕ
-fed_of o = o.burnt.0 ∷ o.oxygen.0 ∷ o.nitrate.0 ∷ o.warn ∷ []
+abbrev pub fed_of : Result Fed Refusal → List ℕ
+fed_of (Ok o) = o.burnt.0 ∷ o.oxygen.0 ∷ o.nitrate.0 ∷ o.warn ∷ []
+fed_of (Err n) = 0 ∷ 0 ∷ 0 ∷ 0 ∷ []
+
+abbrev pub fed_vector : Result Fed Refusal → List ℕ
+fed_vector (Ok o) = o.vector
+fed_vector (Err n) = replicate 26 0
 
 pub record AsmToAdmCalled (f : Figures) (v : List ℕ) (r : ℕ) (w ts : List ℕ) : Type 0 where
-  pub refusal : r ≡ (asm_to_adm f v).refusal
-  pub vector : w ≡ (asm_to_adm f v).vector
+  pub refusal : r ≡ number_in (asm_to_adm f v)
+  pub vector : w ≡ fed_vector (asm_to_adm f v)
   pub told : ts ≡ fed_of (asm_to_adm f v)
 
+abbrev pub stripped_in : Result Returned Refusal → List ℕ
+stripped_in (Ok o) = o.stripped.0 ∷ []
+stripped_in (Err n) = 0 ∷ []
+
+abbrev pub returned_vector : Result Returned Refusal → List ℕ
+returned_vector (Ok o) = o.vector
+returned_vector (Err n) = replicate 13 0
+
 pub record AdmToAsmCalled (f : Figures) (v : List ℕ) (r : ℕ) (w ts : List ℕ) : Type 0 where
-  pub refusal : r ≡ (adm_to_asm f v).refusal
-  pub vector : w ≡ (adm_to_asm f v).vector
-  pub told : ts ≡ (adm_to_asm f v).stripped.0 ∷ []
+  pub refusal : r ≡ number_in (adm_to_asm f v)
+  pub vector : w ≡ returned_vector (adm_to_asm f v)
+  pub told : ts ≡ stripped_in (adm_to_asm f v)
 
 -- ---- a proposal d
 
--- the vector w that closes, and the gas
+-- the vector that closes, and the gas; a refusal leaves the proposal as it is
+abbrev pub vector_in : List ℕ → Result Closed Refusal → List ℕ
+vector_in d (Ok c) = c.vector
+vector_in d (Err n) = d
+
+abbrev pub gas_in : Result Closed Refusal → List ℕ
+gas_in (Ok c) = c.gas.0 ∷ []
+gas_in (Err n) = 0 ∷ []
+
 pub record CloseCalled (f : Figures) (cs d : List ℕ) (r : ℕ) (w ts : List ℕ) : Type 0 where
-  pub refusal : r ≡ (close_of f (plant_at cs) d).refusal
-  pub vector : w ≡ (close_of f (plant_at cs) d).vector
-  pub told : ts ≡ (close_of f (plant_at cs) d).gas.0 ∷ []
+  pub refusal : r ≡ number_in (close_of f (plant_at cs) d)
+  pub vector : w ≡ vector_in d (close_of f (plant_at cs) d)
+  pub told : ts ≡ gas_in (close_of f (plant_at cs) d)
 
 -- COD too much, nitrogen too much, sin above its ceiling
-abbrev pub three_of : Gaps → List ℕ
-three_of g = g.cod.0 ∷ g.tkn.0 ∷ g.sin.0 ∷ []
+abbrev pub three_of : Result Gaps Refusal → List ℕ
+three_of (Ok g) = g.cod.0 ∷ g.tkn.0 ∷ g.sin.0 ∷ []
+three_of (Err n) = 0 ∷ 0 ∷ 0 ∷ []
 
 pub record GapCalled (f : Figures) (cs d : List ℕ) (r : ℕ) (ts : List ℕ) : Type 0 where
-  pub refusal : r ≡ (gap_of f (plant_at cs) d).refusal
+  pub refusal : r ≡ number_in (gap_of f (plant_at cs) d)
   pub told : ts ≡ three_of (gap_of f (plant_at cs) d)

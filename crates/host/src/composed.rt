@@ -1,24 +1,18 @@
 // Calls as lines: each writes the line of a call, or of its preview where preview is not 0, and a newline. It gives how many bytes there
 // are, none under refusal 12.
 ghost use Rattle.vectors.specs.Units.{milligrams};
-ghost use Rattle.plant.specs.Calls.{receiving, feeding, settling, returning, releasing, recycling, request};
+ghost use Rattle.plant.specs.Calls.{receiving, feeding, settling, returning, releasing, recycling};
 ghost use Rattle.host.specs.Calls.{Composed};
 
+use crate::request::{bare, receiving, settling};
 use plant::{Call, Request};
-use vectors::Milligrams;
 
 // A receive.
 #[unsafe(no_mangle)]
 pub extern "C" fn jilghvani_write_receive(v: &[u64; 13], preview: u64, buf: &mut [u8]) -> usize
     ensures { Composed (receiving v.now) preview buf.old result buf.new }
 {
-    let sludge = *v;
-    let request = Request {
-        call: Call::Receive,
-        sludge,
-        digester: [0; 26],
-    };
-    write_request(request, preview, buf)
+    written(receiving(v), preview, buf)
 }
 
 // A feed.
@@ -26,7 +20,7 @@ pub extern "C" fn jilghvani_write_receive(v: &[u64; 13], preview: u64, buf: &mut
 pub extern "C" fn jilghvani_write_feed(k: u64, preview: u64, buf: &mut [u8]) -> usize
     ensures { Composed (feeding k) preview buf.old result buf.new }
 {
-    write_numbered(Call::Feed(k), preview, buf)
+    written(bare(Call::Feed(k)), preview, buf)
 }
 
 // A settle.
@@ -39,13 +33,7 @@ pub extern "C" fn jilghvani_write_settle(
 ) -> usize
     ensures { Composed (settling (milligrams gas) d.now) preview buf.old result buf.new }
 {
-    let digester = *d;
-    let request = Request {
-        call: Call::Settle(Milligrams(gas)),
-        sludge: [0; 13],
-        digester,
-    };
-    write_request(request, preview, buf)
+    written(settling(gas, d), preview, buf)
 }
 
 // A return.
@@ -53,7 +41,7 @@ pub extern "C" fn jilghvani_write_settle(
 pub extern "C" fn jilghvani_write_return(k: u64, preview: u64, buf: &mut [u8]) -> usize
     ensures { Composed (returning k) preview buf.old result buf.new }
 {
-    write_numbered(Call::Return(k), preview, buf)
+    written(bare(Call::Return(k)), preview, buf)
 }
 
 // A release.
@@ -61,7 +49,7 @@ pub extern "C" fn jilghvani_write_return(k: u64, preview: u64, buf: &mut [u8]) -
 pub extern "C" fn jilghvani_write_release(k: u64, preview: u64, buf: &mut [u8]) -> usize
     ensures { Composed (releasing k) preview buf.old result buf.new }
 {
-    write_numbered(Call::Release(k), preview, buf)
+    written(bare(Call::Release(k)), preview, buf)
 }
 
 // A recycle.
@@ -69,25 +57,13 @@ pub extern "C" fn jilghvani_write_release(k: u64, preview: u64, buf: &mut [u8]) 
 pub extern "C" fn jilghvani_write_recycle(k: u64, preview: u64, buf: &mut [u8]) -> usize
     ensures { Composed (recycling k) preview buf.old result buf.new }
 {
-    write_numbered(Call::Recycle(k), preview, buf)
+    written(bare(Call::Recycle(k)), preview, buf)
 }
 
-// A call that takes no vector.
-fn write_numbered(call: Call, preview: u64, buf: &mut [u8]) -> usize
-    ensures { Composed (request call) preview buf.old result buf.new }
-{
-    let request = Request {
-        call,
-        sludge: [0; 13],
-        digester: [0; 26],
-    };
-    write_request(request, preview, buf)
-}
-
-// A call with its vector.
-fn write_request(request: Request, preview: u64, buf: &mut [u8]) -> usize
+// The line of a request; the preview is a number because C asks for it so.
+fn written(request: Request, preview: u64, buf: &mut [u8]) -> usize
     ensures { Composed request preview buf.old result buf.new }
 {
     let w = composing::write_line(buf, request, preview != 0);
-    w.length
+    w.unwrap_or(0)
 }

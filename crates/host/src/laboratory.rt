@@ -1,6 +1,5 @@
 // A laboratory sheet by kinds and values.
-ghost use Rattle.std.specs.Prelude.{◌≡◌, ◌<◌, get_or};
-ghost use Rattle.std.specs.Float.{nan};
+ghost use Rattle.std.specs.Prelude.{◌≡◌};
 ghost use Rattle.vectors.specs.Figures.{house};
 ghost use Rattle.host.specs.Calls.{SheetCalled};
 ghost use Rattle.host.specs.Sheet.{finding_of, sheet_at};
@@ -19,48 +18,46 @@ pub extern "C" fn jilghvani_sheet(
     ensures { SheetCalled house columns.old (sheet_at kinds.now values.now)
         result columns.new told.new }
 {
-    let p = plant_at(columns);
-    let sheet = sheet_at(kinds, values);
-    let o = sheets::receive_sheet(p, sheet);
-    let unseen = o.unseen;
-    *told = [
-        unseen.milligrams.0,
-        unseen.ticks.0,
-        unseen.millimoles.0,
-        unseen.unsampled,
-    ];
-    let next = o.plant;
-    put_plant(columns, next);
-    o.refusal
+    let o = sheets::receive_sheet(plant_at(columns), sheet_at(kinds, values));
+    put_plant(columns, o.plant);
+    match o.told {
+        Ok(unseen) => {
+            *told = [
+                unseen.milligrams.0,
+                unseen.ticks.0,
+                unseen.millimoles.0,
+                unseen.unsampled,
+            ];
+            0
+        }
+        Err(refusal) => {
+            *told = [0; 4];
+            refusal.number()
+        }
+    }
 }
 
-// The entries that kinds and values stand for.
-fn sheet_at(kinds: &[u8; 13], values: &[f32; 13]) -> [Finding; 13]
+// The entries that kinds and values stand for. A for over the places: from_fn does not say that its closure keeps what it captured.
+fn sheet_at(kinds: &[u8; 13], values: &[f32; 13]) -> [Finding<f32>; 13]
     ensures { result ≡ sheet_at kinds.now values.now }
 {
     let mut sheet = [Finding::NotSampled; 13];
-    let mut i = 0usize;
-    while i < 13 {
-        sheet[i] = finding_at(kinds, values, i);
-        i += 1;
+    for i in 0..13 {
+        sheet[i] = finding_of(kinds[i], values[i]);
     }
     sheet
 }
 
-// The entry at one column; the value beside one that was not sampled is not read, and a kind that is none stands for no number.
-fn finding_at(kinds: &[u8; 13], values: &[f32; 13], i: usize) -> Finding
-    requires { i < 13 }
-    ensures { result ≡ finding_of (get_or kinds.now i 0) (get_or values.now i nan) }
+// An entry by its kind, a number because C asks for it so. The value beside one that was not sampled is not read, and a kind that is none
+// stands for no number.
+#[tactic(auto, using(crate::proofs::Laws::Sheet::no_number), unfolding(crate::specs::Sheet::finding_of))]
+fn finding_of(kind: u8, value: f32) -> Finding<f32>
+    ensures { result ≡ finding_of kind value }
 {
-    let kind = kinds[i];
-    if kind == 0 {
-        return Finding::Measured(values[i]);
+    match kind {
+        0 => Finding::Measured(value),
+        1 => Finding::BelowLimit(value),
+        2 => Finding::NotSampled,
+        _ => Finding::Measured(f32::NAN),
     }
-    if kind == 1 {
-        return Finding::BelowLimit(values[i]);
-    }
-    if kind == 2 {
-        return Finding::NotSampled;
-    }
-    Finding::Measured(0.0 / 0.0)
 }

@@ -8,6 +8,7 @@
 //   conversions  the two conversions of a vector by itself
 //   proposals    a proposal for settle: what closes it, and how far off it is
 //   record       52 columns and the plant record that they stand for
+//   request      the requests of the calls by numbers
 #![tactic(auto)]
 
 mod composed;
@@ -16,6 +17,7 @@ mod laboratory;
 mod numbers;
 mod proposals;
 mod record;
+mod request;
 mod text;
 
 pub use composed::{

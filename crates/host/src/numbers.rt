@@ -4,21 +4,20 @@ ghost use Rattle.vectors.specs.Figures.{house};
 ghost use Rattle.vectors.specs.Units.{milligrams};
 ghost use Rattle.plant.specs.Answer.{told};
 ghost use Rattle.plant.specs.Record.{fresh_plant};
-ghost use Rattle.plant.specs.Calls.{receiving, feeding, settling, returning, releasing, recycling};
-ghost use Rattle.host.specs.Record.{columns_at};
+ghost use Rattle.plant.specs.Calls.{receiving, feeding, settling, returning, releasing, recycling, step};
+ghost use Rattle.host.specs.Record.{plant_at, columns_at};
 ghost use Rattle.host.specs.Calls.{Called, CalledOut, four_of, stripped_of, vector_of, TotalsCalled};
 
 use crate::record::{plant_at, put_plant};
-use plant::Outcome;
-use vectors::Milligrams;
+use crate::request::{bare, receiving, settling};
+use plant::{Call, Outcome, Request};
 
 // A fresh record.
 #[unsafe(no_mangle)]
 pub extern "C" fn jilghvani_fresh(columns: &mut [u64; 52])
     ensures { columns.new ≡ columns_at fresh_plant }
 {
-    let p = plant::fresh();
-    put_plant(columns, p);
+    put_plant(columns, plant::fresh());
 }
 
 // Receive.
@@ -26,20 +25,19 @@ pub extern "C" fn jilghvani_fresh(columns: &mut [u64; 52])
 pub extern "C" fn jilghvani_receive(columns: &mut [u64; 52], v: &[u64; 13]) -> u64
     ensures { Called house columns.old (receiving v.now) result columns.new }
 {
-    let p = plant_at(columns);
-    let o = plant::receive(p, *v);
-    put_outcome(columns, o)
+    let o = call(columns, receiving(v));
+    plant::refusal_of(o.answer)
 }
 
-// Feed: burnt, oxygen, nitrate and warn are told.
+// Feed: burnt, oxygen, nitrate and warn are told, zeros where it does not tell them.
 #[unsafe(no_mangle)]
 pub extern "C" fn jilghvani_feed(columns: &mut [u64; 52], k: u64, told: &mut [u64; 4]) -> u64
     ensures { CalledOut house columns.old (feeding k) four_of result columns.new told.new }
 {
-    let p = plant_at(columns);
-    let o = plant::feed(p, k);
-    *told = four_of(o);
-    put_outcome(columns, o)
+    let o = call(columns, bare(Call::Feed(k)));
+    let t = plant::told_of(o.answer);
+    *told = [t.burnt, t.oxygen, t.nitrate, t.warn];
+    t.number
 }
 
 // Settle.
@@ -47,20 +45,19 @@ pub extern "C" fn jilghvani_feed(columns: &mut [u64; 52], k: u64, told: &mut [u6
 pub extern "C" fn jilghvani_settle(columns: &mut [u64; 52], gas: u64, d: &[u64; 26]) -> u64
     ensures { Called house columns.old (settling (milligrams gas) d.now) result columns.new }
 {
-    let p = plant_at(columns);
-    let o = plant::settle(p, Milligrams(gas), *d);
-    put_outcome(columns, o)
+    let o = call(columns, settling(gas, d));
+    plant::refusal_of(o.answer)
 }
 
-// Return: the COD stripped is told.
+// Return: the COD stripped is told, zero where it does not tell it.
 #[unsafe(no_mangle)]
 pub extern "C" fn jilghvani_return(columns: &mut [u64; 52], k: u64, told: &mut [u64; 1]) -> u64
     ensures { CalledOut house columns.old (returning k) stripped_of result columns.new told.new }
 {
-    let p = plant_at(columns);
-    let o = plant::give_back(p, k);
-    *told = stripped_of(o);
-    put_outcome(columns, o)
+    let o = call(columns, bare(Call::Return(k)));
+    let t = plant::told_of(o.answer);
+    *told = [t.stripped];
+    t.number
 }
 
 // Release: the vector is handed out.
@@ -68,11 +65,11 @@ pub extern "C" fn jilghvani_return(columns: &mut [u64; 52], k: u64, told: &mut [
 pub extern "C" fn jilghvani_release(columns: &mut [u64; 52], k: u64, v: &mut [u64; 13]) -> u64
     ensures { CalledOut house columns.old (releasing k) vector_of result columns.new v.new }
 {
-    let p = plant_at(columns);
-    let o = plant::release(p, k);
+    let o = call(columns, bare(Call::Release(k)));
+    // by a variable: the borrow checker does not cover a field that is an array, stored straight
     let vector = o.vector;
     *v = vector;
-    put_outcome(columns, o)
+    plant::refusal_of(o.answer)
 }
 
 // Recycle.
@@ -80,9 +77,8 @@ pub extern "C" fn jilghvani_release(columns: &mut [u64; 52], k: u64, v: &mut [u6
 pub extern "C" fn jilghvani_recycle(columns: &mut [u64; 52], k: u64) -> u64
     ensures { Called house columns.old (recycling k) result columns.new }
 {
-    let p = plant_at(columns);
-    let o = plant::recycle(p, k);
-    put_outcome(columns, o)
+    let o = call(columns, bare(Call::Recycle(k)));
+    plant::refusal_of(o.answer)
 }
 
 // COD, TKN, oxygen and nitrate of the three tanks. Refusal 1.
@@ -90,36 +86,24 @@ pub extern "C" fn jilghvani_recycle(columns: &mut [u64; 52], k: u64) -> u64
 pub extern "C" fn jilghvani_totals(columns: &[u64; 52], told: &mut [u64; 4]) -> u64
     ensures { TotalsCalled house columns.now result told.new }
 {
-    let p = plant_at(columns);
-    let h = holding::held(p);
-    *told = [h.cod.0, h.tkn.0, h.oxygen.0, h.nitrate.0];
-    h.refusal
+    match holding::held(plant_at(columns)) {
+        Ok(h) => {
+            *told = [h.cod.0, h.tkn.0, h.oxygen.0, h.nitrate.0];
+            0
+        }
+        Err(refusal) => {
+            *told = [0; 4];
+            refusal.number()
+        }
+    }
 }
 
-// The record of an outcome takes the place of the columns: the refusal's number, or 0.
-fn put_outcome(columns: &mut [u64; 52], o: Outcome) -> u64
-    ensures { (columns.new ≡ columns_at o.plant) × (result ≡ (told o.answer).number) }
+// A call on the record that the columns stand for; the record behind it takes their place.
+fn call(columns: &mut [u64; 52], request: Request) -> Outcome
+    ensures outcome { result ≡ step house (plant_at columns.old) request }
+    ensures columns { columns.new ≡ columns_at result.plant }
 {
-    let p = o.plant;
-    put_plant(columns, p);
-    let answer = o.answer;
-    plant::refusal_of(answer)
-}
-
-// Burnt, oxygen, nitrate and warn; zeros for an answer that does not tell them.
-fn four_of(o: Outcome) -> [u64; 4]
-    ensures { result ≡ four_of o }
-{
-    let answer = o.answer;
-    let t = plant::told_of(answer);
-    [t.burnt, t.oxygen, t.nitrate, t.warn]
-}
-
-// The COD stripped, zero for an answer that does not tell it.
-fn stripped_of(o: Outcome) -> [u64; 1]
-    ensures { result ≡ stripped_of o }
-{
-    let answer = o.answer;
-    let t = plant::told_of(answer);
-    [t.stripped]
+    let o = requests::answer_request(plant_at(columns), request);
+    put_plant(columns, o.plant);
+    o
 }

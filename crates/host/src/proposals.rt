@@ -13,12 +13,19 @@ pub extern "C" fn jilghvani_close(
 ) -> u64
     ensures { CloseCalled house columns.now d.old result d.new told.new }
 {
-    let p = plant_at(columns);
-    let c = closing::close(p, *d);
-    let vector = c.vector;
-    *d = vector;
-    *told = [c.gas.0];
-    c.refusal
+    match closing::close(plant_at(columns), *d) {
+        Ok(c) => {
+            // by a variable: the borrow checker does not cover a field that is an array, stored straight
+            let vector = c.vector;
+            *d = vector;
+            *told = [c.gas.0];
+            0
+        }
+        Err(refusal) => {
+            *told = [0];
+            refusal.number()
+        }
+    }
 }
 
 // How far off the proposal is: COD too much, nitrogen too much, and the sin that closes above its ceiling.
@@ -26,8 +33,14 @@ pub extern "C" fn jilghvani_close(
 pub extern "C" fn jilghvani_gap(columns: &[u64; 52], d: &[u64; 26], told: &mut [u64; 3]) -> u64
     ensures { GapCalled house columns.now d.now result told.new }
 {
-    let p = plant_at(columns);
-    let g = closing::gap(p, *d);
-    *told = [g.cod.0, g.tkn.0, g.sin.0];
-    g.refusal
+    match closing::gap(plant_at(columns), *d) {
+        Ok(g) => {
+            *told = [g.cod.0, g.tkn.0, g.sin.0];
+            0
+        }
+        Err(refused) => {
+            *told = [0; 3];
+            refused.number()
+        }
+    }
 }

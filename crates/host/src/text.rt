@@ -11,9 +11,7 @@ pub extern "C" fn jilghvani_line(columns: &mut [u64; 52], line: &[u8], buf: &mut
 {
     let p = plant_at(columns);
     let a = lines::answer_line(p, line, buf);
-    let o = a.outcome;
-    let q = o.plant;
-    put_plant(columns, q);
+    put_plant(columns, a.outcome.plant);
     a.length
 }
 
@@ -22,7 +20,6 @@ pub extern "C" fn jilghvani_line(columns: &mut [u64; 52], line: &[u8], buf: &mut
 pub extern "C" fn jilghvani_held(columns: &[u64; 52], buf: &mut [u8]) -> usize
     ensures { HeldCalled house columns.now buf.old result buf.new }
 {
-    let p = plant_at(columns);
-    let h = lines::held_line(p, buf);
+    let h = lines::held_line(plant_at(columns), buf);
     h.length
 }

@@ -4,13 +4,15 @@
 --   ceil                        a quotient rounded up
 --   stage1 .. stage5            the stages, each with its symbols of document 01: A o r D, P, q P' H', R
 --   fed_vector                  the digester vector that the stages give
---   feed_asm1, feed_of          the whole conversion: refusal 4, refusal 6, or the vector and the numbers told
+--   feed_asm1, feed_of          the whole conversion: refusal 4 (FeedShort), refusal 6 (Overburnt), or the vector and the numbers told
 --
 -- Where document 01 parts from 004:
 --   counts are whole, and each definition says where a leftover goes;
 --   nitrate that no COD is left to reduce is carried through in cn (004 allows that or adding it to the inorganic nitrogen);
 --   a shortage of nitrogen for the inerts refuses the feed, where 004 maps less inert COD, and ammonia counts as cover after the pool.
-use Rattle.std.specs.Prelude.{Bool, cond, ◌&&◌, List, ℕ, ◌+◌, ◌-◌, ◌*◌, ◌/◌, min, ltb, eqb, replicate}
+use Rattle.std.specs.Prelude.{Bool, cond, ◌&&◌, Result, Ok, Err, List, ℕ, ◌+◌, ◌-◌, ◌*◌, ◌/◌, min, ltb, eqb}
+use Rattle.refusals.specs.declared.Refusal.{Refusal}
+use Rattle.refusals.specs.declared.Refusal.TheVariants.{FeedShort, Overburnt}
 use Rattle.vectors.specs.declared.figures.Figures.{Figures}
 use Rattle.interface.specs.declared.feed.Fed.{Fed}
 use Rattle.vectors.specs.Columns.{Asm1, asm1, Digester, digester_columns}
@@ -169,16 +171,10 @@ fed_vector v s =
       cn = s.s1.cn;
     }
 
--- a refusal tells zeros
-abbrev pub feed_refused : ℕ → Fed
-feed_refused n =
-    record { refusal = n; burnt = milligrams 0; oxygen = milligrams 0; nitrate = ticks 0; warn = 0; vector = replicate 26 0 }
-
 -- what an accepted conversion tells, with its vector
 abbrev pub feed_taken : Asm1 → Stages → Fed
 feed_taken v s =
     record {
-      refusal = 0;
       burnt = milligrams s.s1.D;
       oxygen = milligrams s.s1.o;
       nitrate = ticks s.s1.r;
@@ -187,13 +183,13 @@ feed_taken v s =
     }
 
 -- 4 where q > P + snh, else 6 where D > A, else the conversion
-unfoldable pub feed_asm1 : Figures → Asm1 → Fed
+unfoldable pub feed_asm1 : Figures → Asm1 → Result Fed Refusal
 feed_asm1 f v =
     let s = stages f v in
-    cond s.s4.short (feed_refused 4)
-    (cond (ltb s.s1.A s.s1.D) (feed_refused 6)
-    (feed_taken v s))
+    cond s.s4.short (Err FeedShort)
+    (cond (ltb s.s1.A s.s1.D) (Err Overburnt)
+    (Ok (feed_taken v s)))
 
 -- the same of an array's columns
-abbrev pub feed_of : Figures → List ℕ → Fed
+abbrev pub feed_of : Figures → List ℕ → Result Fed Refusal
 feed_of f c = feed_asm1 f (asm1 c)

@@ -6,7 +6,7 @@
 --   ReturnLaw       an accepted return conversion keeps COD but for what it strips, TKN, oxygen and nitrate
 --
 -- They hold for every permitted set of figures (the first two have none) and every vector, also above the ceilings.
-use Rattle.std.specs.Prelude.{List, ◌≡◌, ℕ, ◌+◌, ◌-◌, ◌*◌, ◌≤◌, ◌<◌}
+use Rattle.std.specs.Prelude.{Ok, List, ◌≡◌, ℕ, ◌+◌, ◌-◌, ◌*◌, ◌≤◌, ◌<◌}
 use Rattle.vectors.specs.declared.figures.Figures.{Figures}
 use Rattle.interface.specs.declared.feed.Fed.{Fed}
 use Rattle.interface.specs.declared.returning.Returned.{Returned}
@@ -40,7 +40,7 @@ pub record FeedKeeps (f : Figures) (c : List ℕ) (o : Fed) : Type 0 where
   pub nitrate : asm1_nitrate c ≡ digester_nitrate o.vector + (o.nitrate).0
 
 abbrev pub FeedLaw : Type 0
-FeedLaw = (f : Figures) → Permitted f → (c : List ℕ) → (feed_of f c).refusal ≡ 0 → FeedKeeps f c (feed_of f c)
+FeedLaw = (f : Figures) → Permitted f → (c : List ℕ) (o : Fed) → feed_of f c ≡ Ok o → FeedKeeps f c o
 
 pub record ReturnKeeps (f : Figures) (c : List ℕ) (o : Returned) : Type 0 where
   pub cod : digester_cod c ≡ asm1_cod o.vector + (o.stripped).0
@@ -49,4 +49,4 @@ pub record ReturnKeeps (f : Figures) (c : List ℕ) (o : Returned) : Type 0 wher
   pub nitrate : digester_nitrate c ≡ asm1_nitrate o.vector
 
 abbrev pub ReturnLaw : Type 0
-ReturnLaw = (f : Figures) (c : List ℕ) → (return_of f c).refusal ≡ 0 → ReturnKeeps f c (return_of f c)
+ReturnLaw = (f : Figures) (c : List ℕ) (o : Returned) → return_of f c ≡ Ok o → ReturnKeeps f c o

@@ -5,17 +5,19 @@
 --   fed, returned                what an accepted conversion tells, with the columns that are not zero
 --   Row, plants                  the table
 --   Holds, PlantsHold            the conversion of the drawn vector is the outcome of the row; of every row. proofs/Laws/Plants.antt proves it.
-use Rattle.std.specs.Prelude.{cond, List, [], ◌∷◌, map, ◌≡◌, ℕ}
+use Rattle.std.specs.Prelude.{cond, Result, Ok, Err, List, [], ◌∷◌, map, ◌≡◌, ℕ}
 use Prim.Native.String.{String}
 use lib.Text.{eqt}
+use Rattle.refusals.specs.declared.Refusal.{Refusal}
+use Rattle.refusals.specs.declared.Refusal.TheVariants.{FeedShort, ReturnShort}
 use Rattle.interface.specs.declared.feed.Fed.{Fed}
 use Rattle.interface.specs.declared.returning.Returned.{Returned}
 use Rattle.vectors.specs.Columns.{asm1_names, digester_names}
 use Rattle.vectors.specs.Figures.{house}
 use Rattle.vectors.specs.Draw.{drawn}
 use Rattle.vectors.specs.Units.{milligrams, ticks}
-use Rattle.interface.specs.Feed.{feed_refused, feed_of}
-use Rattle.interface.specs.Return.{return_refused, return_of}
+use Rattle.interface.specs.Feed.{feed_of}
+use Rattle.interface.specs.Return.{return_of}
 
 -- ---- vectors by names
 
@@ -41,19 +43,19 @@ digester_named ns = map (under ns) digester_names
 -- ---- outcomes
 
 -- D, o, r and warn, and the digester columns
-abbrev pub fed : ℕ → ℕ → ℕ → ℕ → List Named → Fed
+abbrev pub fed : ℕ → ℕ → ℕ → ℕ → List Named → Result Fed Refusal
 fed D o r w ns =
-    record { refusal = 0; burnt = milligrams D; oxygen = milligrams o; nitrate = ticks r; warn = w; vector = digester_named ns }
+    Ok (record { burnt = milligrams D; oxygen = milligrams o; nitrate = ticks r; warn = w; vector = digester_named ns })
 
 -- the COD stripped, and the ASM1 columns
-abbrev pub returned : ℕ → List Named → Returned
-returned s ns = record { refusal = 0; stripped = milligrams s; vector = asm1_named ns }
+abbrev pub returned : ℕ → List Named → Result Returned Refusal
+returned s ns = Ok (record { stripped = milligrams s; vector = asm1_named ns })
 
 -- ---- the table
 
 pub data Row : Type 0 where
-  feeding : List Named → Fed → Row
-  returning : List Named → Returned → Row
+  feeding : List Named → Result Fed Refusal → Row
+  returning : List Named → Result Returned Refusal → Row
 
 abbrev pub plants : List Row
 plants =
@@ -69,7 +71,7 @@ plants =
     ∷ feeding ("xi" is 10 ∷ []) (fed 0 0 0 0 ("xi" is 8 ∷ "xc" is 2 ∷ "sin" is 6000 ∷ []))
     -- f: si by fed_vector; sin by stage4 and stage5. One tick less, and stage4 is short
     ∷ feeding ("si" is 1 ∷ "snh" is 280 ∷ []) (fed 0 0 0 0 ("si" is 1 ∷ []))
-    ∷ feeding ("si" is 1 ∷ "snh" is 279 ∷ []) (feed_refused 4)
+    ∷ feeding ("si" is 1 ∷ "snh" is 279 ∷ []) (Err FeedShort)
     -- g: D, o, co, cn and warn by stage1
     ∷ feeding ("xs" is 5 ∷ "so" is 7 ∷ "sno" is 100 ∷ []) (fed 5 5 0 1 ("co" is 2 ∷ "cn" is 100 ∷ []))
     -- h: D, r, cn and warn by stage1; sin, the nitrogen of the burnt biomass, by stage3 and stage5
@@ -80,7 +82,7 @@ plants =
     ∷ returning ("xi" is 8 ∷ "xc" is 2 ∷ "sin" is 6000 ∷ []) (returned 0 ("xi" is 8 ∷ "xs" is 2 ∷ "snh" is 1760 ∷ []))
     -- k, return: xi by returned_vector; no other nitrogen, by taken. One tick less, and return_short holds
     ∷ returning ("xi" is 1 ∷ "sin" is 600 ∷ []) (returned 0 ("xi" is 1 ∷ []))
-    ∷ returning ("xi" is 1 ∷ "sin" is 599 ∷ []) (return_refused 5)
+    ∷ returning ("xi" is 1 ∷ "sin" is 599 ∷ []) (Err ReturnShort)
     ∷ []
 
 -- ---- the theorem

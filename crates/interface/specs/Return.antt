@@ -5,10 +5,12 @@
 --   nitrogen_of                  document 01's start: xnd, snd and snh by the digester's columns
 --   taken                        nitrogen taken from xnd, then snd, then snh
 --   returned_vector              the ASM1 vector
---   return_digester, return_of   the whole conversion: refusal 5, or the vector and the COD stripped
+--   return_digester, return_of   the whole conversion: refusal 5 (ReturnShort), or the vector and the COD stripped
 --
 -- Where document 01 parts from 004: ixe × xi is taken from xnd, then snd, then snh, and a shortage refuses the return, where 004 lets xnd go below zero.
-use Rattle.std.specs.Prelude.{Bool, cond, List, ℕ, ◌+◌, ◌-◌, ◌*◌, ltb, replicate}
+use Rattle.std.specs.Prelude.{Bool, cond, Result, Ok, Err, List, ℕ, ◌+◌, ◌-◌, ◌*◌, ltb}
+use Rattle.refusals.specs.declared.Refusal.{Refusal}
+use Rattle.refusals.specs.declared.Refusal.TheVariants.{ReturnShort}
 use Rattle.vectors.specs.declared.figures.Figures.{Figures}
 use Rattle.interface.specs.declared.returning.Returned.{Returned}
 use Rattle.vectors.specs.Columns.{Asm1, asm1_columns, Digester, digester}
@@ -69,23 +71,18 @@ returned_vector d n =
       salk = d.sic;
     }
 
--- a refusal tells zeros
-abbrev pub return_refused : ℕ → Returned
-return_refused n = record { refusal = n; stripped = milligrams 0; vector = replicate 13 0 }
-
 -- what an accepted conversion tells, with its vector: the nitrogen is what ixe × xi leaves
 abbrev pub return_taken : Figures → Digester → Returned
 return_taken f d =
     record {
-      refusal = 0;
       stripped = milligrams (stripped d);
       vector = asm1_columns (returned_vector d (taken (f.ixe * d.xi) (nitrogen_of f d)));
     }
 
 -- 5 where xnd, snd and snh together hold less than ixe × xi, else the conversion
-unfoldable pub return_digester : Figures → Digester → Returned
-return_digester f d = cond (return_short (f.ixe * d.xi) (nitrogen_of f d)) (return_refused 5) (return_taken f d)
+unfoldable pub return_digester : Figures → Digester → Result Returned Refusal
+return_digester f d = cond (return_short (f.ixe * d.xi) (nitrogen_of f d)) (Err ReturnShort) (Ok (return_taken f d))
 
 -- the same of an array's columns
-abbrev pub return_of : Figures → List ℕ → Returned
+abbrev pub return_of : Figures → List ℕ → Result Returned Refusal
 return_of f c = return_digester f (digester c)

@@ -2,9 +2,12 @@
 --
 --   Low, LowDigester                                      every column of the vector is at most its ceiling
 --   Demands, Leaves, AcidsHeld, InertsHeld, RemainsHeld   the struct has the numbers of its stage
+--   InertsGiven                                           the same, or refusal 4 where stage 4 is short
 --   StagesHeld                                            the structs have the numbers of one vector's stages
 --   nitrogen_counts                                       the numbers of the return's nitrogen
-use Rattle.std.specs.Prelude.{◌≡◌, ℕ, ◌≤◌}
+use Rattle.std.specs.Prelude.{true, false, ◌≡◌, Result, Ok, Err, ℕ, ◌≤◌}
+use Rattle.refusals.specs.declared.Refusal.{Refusal}
+use Rattle.refusals.specs.declared.Refusal.TheVariants.{FeedShort}
 use Rattle.vectors.specs.Columns.{cod_ceiling, tick_ceiling, asm1_ceilings, asm1_columns, digester_ceilings, digester_columns, Below}
 use Rattle.columns.specs.Counts.{asm1_counts, digester_counts}
 use Rattle.interface.specs.Feed.{Stage1, Stage2, Stage4, Stage5, Stages}
@@ -56,10 +59,13 @@ pub record InertsHeld (i : Inerts) (s : Stage4) (m : ℕ) : Type 0 where
   pub xi : i.xi.0 ≡ s.xi
   pub P' : i.pool.0 ≡ s.P'
   pub H' : i.ammonia.0 ≡ s.H'
-  pub short : i.short ≡ s.short
   pub xi_le : i.xi.0 ≤ m
   pub P'-le : i.pool.0 ≤ 60_000_000_000_000_000
   pub H'-le : i.ammonia.0 ≤ tick_ceiling
+
+abbrev pub InertsGiven : Result Inerts Refusal → Stage4 → ℕ → Type 0
+InertsGiven (Ok i) s m = (s.short ≡ false) × InertsHeld i s m
+InertsGiven (Err r) s m = (s.short ≡ true) × (r ≡ FeedShort)
 
 pub record RemainsHeld (r : Remains) (s : Stage5) : Type 0 where
   pub xc : r.xc.0 ≡ s.xc

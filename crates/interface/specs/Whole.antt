@@ -4,16 +4,18 @@
 --
 --   asm_to_adm    ASM1 to digester: 3, then 4 and 6
 --   adm_to_asm    digester to ASM1: 3, then 5
-use Rattle.std.specs.Prelude.{cond, List, ℕ}
+use Rattle.std.specs.Prelude.{cond, Result, Err, List, ℕ}
+use Rattle.refusals.specs.declared.Refusal.{Refusal}
+use Rattle.refusals.specs.declared.Refusal.TheVariants.{ColumnAbove}
 use Rattle.vectors.specs.declared.figures.Figures.{Figures}
 use Rattle.vectors.specs.Columns.{asm1_ceilings, digester_ceilings, within}
 use Rattle.interface.specs.declared.feed.Fed.{Fed}
 use Rattle.interface.specs.declared.returning.Returned.{Returned}
-use Rattle.interface.specs.Feed.{feed_refused, feed_of}
-use Rattle.interface.specs.Return.{return_refused, return_of}
+use Rattle.interface.specs.Feed.{feed_of}
+use Rattle.interface.specs.Return.{return_of}
 
-unfoldable pub asm_to_adm : Figures → List ℕ → Fed
-asm_to_adm f v = cond (within asm1_ceilings v) (feed_of f v) (feed_refused 3)
+unfoldable pub asm_to_adm : Figures → List ℕ → Result Fed Refusal
+asm_to_adm f v = cond (within asm1_ceilings v) (feed_of f v) (Err ColumnAbove)
 
-unfoldable pub adm_to_asm : Figures → List ℕ → Returned
-adm_to_asm f d = cond (within digester_ceilings d) (return_of f d) (return_refused 3)
+unfoldable pub adm_to_asm : Figures → List ℕ → Result Returned Refusal
+adm_to_asm f d = cond (within digester_ceilings d) (return_of f d) (Err ColumnAbove)

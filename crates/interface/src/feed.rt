@@ -3,18 +3,19 @@ ghost use Rattle.std.specs.Prelude.{◌≡◌, ◌+◌, ◌-◌, ◌*◌, ◌/�
 ghost use Rattle.vectors.specs.Columns.{Below, asm1_ceilings};
 ghost use Rattle.vectors.specs.Figures.{Permitted};
 ghost use Rattle.columns.specs.Counts.{asm1_counts, digester_counts};
-ghost use Rattle.interface.specs.Feed.{nitrate_rule, ceil, warn_of, stage1, stages, fed_vector, feed_refused, feed_taken, feed_asm1, feed_of};
-ghost use Rattle.interface.specs.Structs.{Low, Demands, Leaves, AcidsHeld, InertsHeld, RemainsHeld, StagesHeld};
+ghost use Rattle.interface.specs.Feed.{nitrate_rule, ceil, warn_of, stage1, stages, fed_vector, feed_taken, feed_asm1, feed_of};
+ghost use Rattle.interface.specs.Structs.{Low, Demands, Leaves, AcidsHeld, InertsGiven, InertsHeld, RemainsHeld, StagesHeld};
 
-use columns::{Asm1, Digester, asm1_of, digester_array};
+use columns::{Asm1, Digester};
+use refusals::Refusal;
 use vectors::{
-    Figures, Milligrams, Ticks, afforded, covers, milligrams_for, nitrogen, share, ticks_for,
+    Figures, Milligrams, Ticks, Unit, afforded, covers, milligrams_for, nitrogen, share, ticks_for,
 };
 
-// What a feed conversion gives: refusal 0 with the vector and the numbers told, or a refusal with zeros.
+// What an accepted feed conversion gives: its vector and the numbers told. warn is 0 or 1, and a number, since an answer is told in
+// numbers and the writer of a line takes any.
 #[derive(Clone, Copy)]
 pub struct Fed {
-    pub refusal: u64,
     pub burnt: Milligrams,
     pub oxygen: Milligrams,
     pub nitrate: Ticks,
@@ -22,16 +23,16 @@ pub struct Fed {
     pub vector: [u64; 26],
 }
 
-// The feed conversion.
-pub fn feed_of(f: Figures, c: [u64; 13]) -> Fed
+// The feed conversion. Refusals 4 and 6.
+pub fn feed_of(f: Figures, c: [u64; 13]) -> Result<Fed, Refusal>
     requires { (Permitted f) × (Below asm1_ceilings c) }
     ensures { result ≡ feed_of f c }
 {
-    feed_asm1(f, asm1_of(c))
+    feed_asm1(f, Asm1::from(c))
 }
 
 // The same of a vector by its names: 4 where q > P + snh, else 6 where D > A, else the five stages.
-fn feed_asm1(f: Figures, v: Asm1) -> Fed
+fn feed_asm1(f: Figures, v: Asm1) -> Result<Fed, Refusal>
     requires { (Permitted f) × (Low v) }
     ensures { result ≡ feed_asm1 f (asm1_counts v) }
 {
@@ -39,29 +40,12 @@ fn feed_asm1(f: Figures, v: Asm1) -> Fed
     let left = left_of(v, demand);
     let acids = acids_of(f, v, left);
     let pool = pool_of(f, v, acids);
-    let inerts = inerts_of(f, v, pool);
-    if inerts.short {
-        return feed_refused(4);
-    }
-    if demand.a.is_under(demand.d) {
-        return feed_refused(6);
+    let inerts = inerts_of(f, v, pool)?;
+    if demand.a < demand.d {
+        return Err(Refusal::Overburnt);
     }
     let remains = remains_of(f, v, left, inerts);
-    feed_taken(f, v, demand, left, acids, inerts, remains)
-}
-
-// A refusal, which tells zeros.
-pub fn feed_refused(n: u64) -> Fed
-    ensures { result ≡ feed_refused n }
-{
-    Fed {
-        refusal: n,
-        burnt: Milligrams(0),
-        oxygen: Milligrams(0),
-        nitrate: Ticks(0),
-        warn: 0,
-        vector: [0; 26],
-    }
+    Ok(feed_taken(f, v, demand, left, acids, inerts, remains))
 }
 
 // What an accepted conversion tells, with its vector.
@@ -77,17 +61,12 @@ fn feed_taken(
     requires { (Demands demand (stage1 nitrate_rule (asm1_counts v))) × (StagesHeld left acids inerts remains (v.xi.0 + v.xp.0) (stages f (asm1_counts v))) }
     ensures { result ≡ feed_taken (asm1_counts v) (stages f (asm1_counts v)) }
 {
-    let d = fed_vector(f, v, left, acids, inerts, remains);
-    let burnt = demand.d;
-    let oxygen = demand.o;
-    let nitrate = demand.r;
     Fed {
-        refusal: 0,
-        burnt: burnt,
-        oxygen: oxygen,
-        nitrate: nitrate,
+        burnt: demand.d,
+        oxygen: demand.o,
+        nitrate: demand.r,
         warn: left.warn,
-        vector: digester_array(d),
+        vector: <[u64; 26]>::from(fed_vector(f, v, left, acids, inerts, remains)),
     }
 }
 
@@ -136,15 +115,14 @@ fn demand_of(v: Asm1) -> Demand
     ensures { Demands result (stage1 nitrate_rule (asm1_counts v)) }
 {
     let a = v.ss.plus(v.xs).plus(v.xbh).plus(v.xba);
-    let o = v.so.least(a);
+    let o = v.so.min(a);
     let x = a.less(o);
-    let sno = v.sno;
-    if is_covered(sno, x) {
+    if is_covered(v.sno, x) {
         return Demand {
-            a: a,
-            o: o,
-            r: sno,
-            d: o.plus(nitrate_cod(sno)),
+            a,
+            o,
+            r: v.sno,
+            d: o.plus(nitrate_cod(v.sno)),
         };
     }
     let r = reducible(x);
@@ -155,12 +133,7 @@ fn demand_of(v: Asm1) -> Demand
 fn short_demand(a: Milligrams, o: Milligrams, r: Ticks) -> Demand
     ensures { ((result.a ≡ a) × (result.o ≡ o)) × ((result.r ≡ r) × (result.d ≡ a)) }
 {
-    Demand {
-        a: a,
-        o: o,
-        r: r,
-        d: a,
-    }
+    Demand { a, o, r, d: a }
 }
 
 // What stage 1 leaves.
@@ -190,8 +163,8 @@ fn left_of(v: Asm1, demand: Demand) -> Left
         xs: v.xs.less(behind_ss),
         xbh: v.xbh.less(behind_xs),
         xba: v.xba.less(behind_xbh),
-        co: co,
-        cn: cn,
+        co,
+        cn,
         warn: warn_of(co, cn),
     }
 }
@@ -200,10 +173,8 @@ fn left_of(v: Asm1, demand: Demand) -> Left
 fn warn_of(co: Milligrams, cn: Ticks) -> u64
     ensures { result ≡ warn_of co.0 cn.0 }
 {
-    if co.is_none() {
-        if cn.is_none() {
-            return 0;
-        }
+    if co == Milligrams(0) && cn == Ticks(0) {
+        return 0;
     }
     1
 }
@@ -221,7 +192,7 @@ fn acids_of(f: Figures, v: Asm1, left: Left) -> Acids
 {
     let saa = afforded(left.ss, v.snd, f.naa);
     Acids {
-        saa: saa,
+        saa,
         ssu: left.ss.less(saa),
     }
 }
@@ -237,28 +208,29 @@ fn pool_of(f: Figures, v: Asm1, acids: Acids) -> Ticks
     soluble.plus(v.xnd).plus(biomass).plus(inert)
 }
 
-// What stage 4 gives: the digester's xi, the pool and the ammonia left, and whether nitrogen is short.
+// What stage 4 gives: the digester's xi, and the pool and the ammonia left.
 #[derive(Clone, Copy)]
 pub struct Inerts {
     pub xi: Milligrams,
     pub pool: Ticks,
     pub ammonia: Ticks,
-    pub short: bool,
 }
 
-// Stage 4.
-fn inerts_of(f: Figures, v: Asm1, pool: Ticks) -> Inerts
+// Stage 4. Refusal 4 where nitrogen is short.
+fn inerts_of(f: Figures, v: Asm1, pool: Ticks) -> Result<Inerts, Refusal>
     requires { (Permitted f) × ((Low v) × ((pool.0 ≡ (stages f (asm1_counts v)).P) × (pool.0 ≤ 60000000000000000))) }
-    ensures { InertsHeld result (stages f (asm1_counts v)).s4 (v.xi.0 + v.xp.0) }
+    ensures { InertsGiven result (stages f (asm1_counts v)).s4 (v.xi.0 + v.xp.0) }
 {
     let xi = share(v.xi.plus(v.xp), f.fxi, 10000);
     let q = nitrogen(f.ni, v.si.plus(xi));
-    Inerts {
-        xi: xi,
+    if pool.plus(v.snh) < q {
+        return Err(Refusal::FeedShort);
+    }
+    Ok(Inerts {
+        xi,
         pool: pool.less(q),
         ammonia: v.snh.less(q.less(pool)),
-        short: pool.plus(v.snh).is_under(q),
-    }
+    })
 }
 
 // What stage 5 gives.
@@ -281,8 +253,8 @@ fn remains_of(f: Figures, v: Asm1, left: Left, inerts: Inerts) -> Remains
     let rest = all.less(xc);
     let xch = share(rest, f.fch, f.fch + f.fli);
     Remains {
-        xc: xc,
-        xch: xch,
+        xc,
+        xch,
         xli: rest.less(xch),
         sin: inerts.ammonia.plus(inerts.pool).less(nitrogen(f.nxc, xc)),
     }
@@ -300,21 +272,10 @@ fn fed_vector(
     requires { StagesHeld left acids inerts remains (v.xi.0 + v.xp.0) (stages f (asm1_counts v)) }
     ensures { digester_counts result ≡ fed_vector (asm1_counts v) (stages f (asm1_counts v)) }
 {
-    let si = v.si;
-    let ssu = acids.ssu;
-    let saa = acids.saa;
-    let xi = inerts.xi;
-    let xc = remains.xc;
-    let xch = remains.xch;
-    let xli = remains.xli;
-    let sin = remains.sin;
-    let sic = v.salk;
-    let co = left.co;
-    let cn = left.cn;
     Digester {
-        si: si,
-        ssu: ssu,
-        saa: saa,
+        si: v.si,
+        ssu: acids.ssu,
+        saa: acids.saa,
         sfa: Milligrams(0),
         sva: Milligrams(0),
         sbu: Milligrams(0),
@@ -322,11 +283,11 @@ fn fed_vector(
         sac: Milligrams(0),
         sh2: Milligrams(0),
         sch4: Milligrams(0),
-        xi: xi,
-        xc: xc,
-        xch: xch,
+        xi: inerts.xi,
+        xc: remains.xc,
+        xch: remains.xch,
         xpr: Milligrams(0),
-        xli: xli,
+        xli: remains.xli,
         xsu: Milligrams(0),
         xaa: Milligrams(0),
         xfa: Milligrams(0),
@@ -334,9 +295,9 @@ fn fed_vector(
         xpro: Milligrams(0),
         xac: Milligrams(0),
         xh2: Milligrams(0),
-        sin: sin,
-        sic: sic,
-        co: co,
-        cn: cn,
+        sin: remains.sin,
+        sic: v.salk,
+        co: left.co,
+        cn: left.cn,
     }
 }

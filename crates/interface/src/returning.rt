@@ -4,50 +4,39 @@ ghost use Rattle.vectors.specs.Columns.{Below, digester_ceilings};
 ghost use Rattle.vectors.specs.Figures.{Permitted};
 ghost use Rattle.columns.specs.Counts.{asm1_counts, digester_counts};
 ghost use Rattle.vectors.specs.Totals.{degraders};
-ghost use Rattle.interface.specs.Return.{soluble, particulate, nitrogen_of, taken, returned_vector, return_refused, return_taken, return_digester, return_of};
+ghost use Rattle.interface.specs.Return.{soluble, particulate, nitrogen_of, taken, returned_vector, return_taken, return_digester, return_of};
 ghost use Rattle.interface.specs.Structs.{LowDigester, nitrogen_counts};
 
-use columns::{Asm1, Digester, asm1_array, digester_of};
-use vectors::{Figures, Milligrams, Ticks, nitrogen};
+use columns::{Asm1, Digester};
+use refusals::Refusal;
+use vectors::{Figures, Milligrams, Ticks, Unit, nitrogen};
 
-// What a return conversion gives: refusal 0 with the vector and the COD stripped, or a refusal with zeros.
+// What an accepted return conversion gives: its vector and the COD stripped.
 #[derive(Clone, Copy)]
 pub struct Returned {
-    pub refusal: u64,
     pub stripped: Milligrams,
     pub vector: [u64; 13],
 }
 
-// The return conversion.
-pub fn return_of(f: Figures, c: [u64; 26]) -> Returned
+// The return conversion. Refusal 5.
+pub fn return_of(f: Figures, c: [u64; 26]) -> Result<Returned, Refusal>
     requires { (Permitted f) × (Below digester_ceilings c) }
     ensures { result ≡ return_of f c }
 {
-    return_digester(f, digester_of(c))
+    return_digester(f, Digester::from(c))
 }
 
 // The same of a vector by its names: 5 where xnd, snd and snh hold less than ixe × xi, else the conversion.
-fn return_digester(f: Figures, d: Digester) -> Returned
+fn return_digester(f: Figures, d: Digester) -> Result<Returned, Refusal>
     requires { (Permitted f) × (LowDigester d) }
     ensures { result ≡ return_digester f (digester_counts d) }
 {
     let n = nitrogen_of(f, d);
     let q = nitrogen(f.ixe, d.xi);
-    if n.xnd.plus(n.snd).plus(n.snh).is_under(q) {
-        return return_refused(5);
+    if n.xnd.plus(n.snd).plus(n.snh) < q {
+        return Err(Refusal::ReturnShort);
     }
-    return_taken(f, d, n.without(q))
-}
-
-// A refusal, which tells zeros.
-pub fn return_refused(n: u64) -> Returned
-    ensures { result ≡ return_refused n }
-{
-    Returned {
-        refusal: n,
-        stripped: Milligrams(0),
-        vector: [0; 13],
-    }
+    Ok(return_taken(f, d, n.without(q)))
 }
 
 // What an accepted conversion tells, with its vector. The nitrogen is what ixe × xi leaves.
@@ -55,11 +44,9 @@ fn return_taken(f: Figures, d: Digester, left: Nitrogen) -> Returned
     requires { (LowDigester d) × (nitrogen_counts left ≡ taken (f.ixe * d.xi.0) (nitrogen_of f (digester_counts d))) }
     ensures { result ≡ return_taken f (digester_counts d) }
 {
-    let v = returned_vector(d, left);
     Returned {
-        refusal: 0,
         stripped: d.sh2.plus(d.sch4),
-        vector: asm1_array(v),
+        vector: <[u64; 13]>::from(returned_vector(d, left)),
     }
 }
 
@@ -96,11 +83,10 @@ fn nitrogen_of(f: Figures, d: Digester) -> Nitrogen
     let inert = nitrogen(f.ni, d.xi);
     let amino = nitrogen(f.naa, d.saa);
     let soluble = nitrogen(f.ni, d.si);
-    let sin = d.sin;
     Nitrogen {
         xnd: composites.plus(protein).plus(biomass).plus(inert),
         snd: amino.plus(soluble),
-        snh: sin,
+        snh: d.sin,
     }
 }
 
@@ -148,27 +134,19 @@ fn returned_vector(d: Digester, n: Nitrogen) -> Asm1
     requires { LowDigester d }
     ensures { asm1_counts result ≡ returned_vector (digester_counts d) (nitrogen_counts n) }
 {
-    let si = d.si;
-    let xi = d.xi;
-    let so = d.co;
-    let sno = d.cn;
-    let snh = n.snh;
-    let snd = n.snd;
-    let xnd = n.xnd;
-    let salk = d.sic;
     Asm1 {
-        si: si,
+        si: d.si,
         ss: soluble_of(d),
-        xi: xi,
+        xi: d.xi,
         xs: particulate_of(d),
         xbh: Milligrams(0),
         xba: Milligrams(0),
         xp: Milligrams(0),
-        so: so,
-        sno: sno,
-        snh: snh,
-        snd: snd,
-        xnd: xnd,
-        salk: salk,
+        so: d.co,
+        sno: d.cn,
+        snh: n.snh,
+        snd: n.snd,
+        xnd: n.xnd,
+        salk: d.sic,
     }
 }

@@ -3,25 +3,22 @@ ghost use Rattle.std.specs.Prelude.{◌≡◌};
 ghost use Rattle.vectors.specs.Figures.{house};
 ghost use Rattle.interface.specs.Whole.{asm_to_adm, adm_to_asm};
 
-use crate::feed::{Fed, feed_of, feed_refused};
-use crate::returning::{Returned, return_of, return_refused};
+use crate::feed::{Fed, feed_of};
+use crate::returning::{Returned, return_of};
+use refusals::{Refusal, unless};
 
 // ASM1 to digester. Refusals 3, 4 and 6.
-pub fn asm_to_adm(v: [u64; 13]) -> Fed
+pub fn asm_to_adm(v: [u64; 13]) -> Result<Fed, Refusal>
     ensures { result ≡ asm_to_adm house v }
 {
-    if vectors::asm1_within(v) {
-        return feed_of(vectors::HOUSE, v);
-    }
-    feed_refused(3)
+    unless(vectors::is_within(v), Refusal::ColumnAbove)?;
+    feed_of(vectors::HOUSE, v)
 }
 
 // Digester to ASM1. Refusals 3 and 5.
-pub fn adm_to_asm(d: [u64; 26]) -> Returned
+pub fn adm_to_asm(d: [u64; 26]) -> Result<Returned, Refusal>
     ensures { result ≡ adm_to_asm house d }
 {
-    if vectors::digester_within(d) {
-        return return_of(vectors::HOUSE, d);
-    }
-    return_refused(3)
+    unless(vectors::is_within(d), Refusal::ColumnAbove)?;
+    return_of(vectors::HOUSE, d)
 }

@@ -1,23 +1,21 @@
 -- The call on a line: document 01, "Lines in brackets" and "What the link sends away", and document 02, E3.
 --
---   request_of     the request of a line with a call
 --   form_outcome   what a line that has been read gives on a record; no form is refused with 11
 --   line_outcome   the outcome with a buffer of m bytes, refused with 12 where m is under 512
 --   line_text      the answer's bytes
 --   held_refusal   the refusal of the held line
 --   LineAnswered   the promise of the call: the outcome, the count and the whole buffer
 --   HeldAnswered   the same of the held line
-use Rattle.std.specs.Prelude.{cond, List, ◌≡◌, ℕ, ltb, length}
+use Rattle.std.specs.Prelude.{cond, Option, Some, None, List, ◌≡◌, ℕ, ltb, length}
+use Rattle.std.specs.Result.{result_err}
+use Rattle.refusals.specs.declared.Refusal.{Refusal}
+use Rattle.refusals.specs.declared.Refusal.TheVariants.{NoForm, ShortBuffer}
 use Rattle.vectors.specs.declared.figures.Figures.{Figures}
 use Rattle.plant.specs.declared.record.Plant.{Plant}
-use Rattle.plant.specs.declared.answer.Call.{Call}
-use Rattle.plant.specs.declared.answer.Request.{Request}
 use Rattle.plant.specs.declared.answer.Outcome.{Outcome}
 use Rattle.plant.specs.Answer.{refused}
 use Rattle.plant.specs.Calls.{outcome_by}
-use Rattle.reading.specs.declared.form.Form.{Form}
-use Rattle.reading.specs.declared.form.Form.TheVariants.{Asked, NotAForm}
-use Rattle.reading.specs.declared.form.Line.{Line}
+use Rattle.reading.specs.declared.form.Asked.{Asked}
 use Rattle.lines.specs.declared.asking.LineOutcome.{LineOutcome}
 use Rattle.reading.specs.Line.{read_line}
 use Rattle.writing.specs.Buffer.{Answered}
@@ -25,18 +23,12 @@ use Rattle.writing.specs.Answer.{answer_text, held_text, fitting}
 use Rattle.holding.specs.Held.{held_of}
 use Rattle.lines.specs.declared.asking.HeldOutcome.{HeldOutcome}
 
-abbrev pub request_of : Call → Line → Request
-request_of call l = record { call = call; sludge = l.sludge; digester = l.digester }
-
-abbrev pub asked_outcome : Figures → Plant → Form → Line → Outcome
-asked_outcome f p (Asked call b) l = outcome_by f p b (request_of call l)
-asked_outcome f p NotAForm l = refused p 11
-
-abbrev pub form_outcome : Figures → Plant → Line → Outcome
-form_outcome f p l = asked_outcome f p l.form l
+abbrev pub form_outcome : Figures → Plant → Option Asked → Outcome
+form_outcome f p (Some a) = outcome_by f p a.preview a.request
+form_outcome f p None = refused p NoForm
 
 unfoldable pub line_outcome : Figures → ℕ → Plant → List ℕ → Outcome
-line_outcome f m p s = cond (ltb m 512) (refused p 12) (form_outcome f p (read_line s))
+line_outcome f m p s = cond (ltb m 512) (refused p ShortBuffer) (form_outcome f p (read_line s))
 
 abbrev pub outcome_text : Outcome → List ℕ
 outcome_text o = answer_text o.answer o.vector
@@ -45,9 +37,9 @@ outcome_text o = answer_text o.answer o.vector
 unfoldable pub line_text : Figures → ℕ → Plant → List ℕ → List ℕ
 line_text f m p s = fitting m (outcome_text (form_outcome f p (read_line s)))
 
--- the held line: 12 in a short buffer, else the record's own refusal, 0 where there is none
-unfoldable pub held_refusal : Figures → ℕ → Plant → ℕ
-held_refusal f m p = cond (ltb m 512) 12 (held_of f p).refusal
+-- the held line: 12 in a short buffer, else the record's own refusal, if any
+unfoldable pub held_refusal : Figures → ℕ → Plant → Option Refusal
+held_refusal f m p = cond (ltb m 512) (Some ShortBuffer) (result_err (held_of f p))
 
 -- from the record p, the line s and the buffer d to the result r and the buffer e
 pub record LineAnswered (f : Figures) (p : Plant) (s d : List ℕ) (r : LineOutcome) (e : List ℕ) : Type 0 where

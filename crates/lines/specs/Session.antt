@@ -17,7 +17,7 @@
 --                                proofs/Laws/File.antt proves it: file
 --
 -- f is the set of figures; the program has the house set.
-use Rattle.std.specs.Prelude.{true, false, cond, List, [], ◌∷◌, ◌++◌, ◌≡◌, ℕ, ◌+◌, ◌≤◌, eqb, length, take}
+use Rattle.std.specs.Prelude.{true, false, cond, Option, Some, None, List, [], ◌∷◌, ◌++◌, ◌≡◌, ℕ, ◌+◌, ◌≤◌, eqb, length, take}
 use Rattle.vectors.specs.declared.figures.Figures.{Figures}
 use Rattle.vectors.specs.Figures.{Permitted}
 use Rattle.vectors.specs.Totals.{asm1_cod, asm1_tkn, asm1_oxygen, asm1_nitrate}
@@ -25,16 +25,17 @@ use Rattle.plant.specs.declared.record.Plant.{Plant}
 use Rattle.plant.specs.declared.answer.Outcome.{Outcome}
 use Rattle.plant.specs.Record.{fresh_plant}
 use Rattle.plant.specs.Answer.{refused}
+use Rattle.refusals.specs.declared.Refusal.{Refusal}
+use Rattle.refusals.specs.declared.Refusal.TheVariants.{NoForm}
+use Rattle.std.specs.Prelude.{Result, Ok}
 use Rattle.holding.specs.declared.holding.HeldTotals.{HeldTotals}
 use Rattle.holding.specs.Held.{held_of}
 use Rattle.balances.specs.Balance.{Entry, entry, received, released, burnt, gas, stripped, oxygen_reduced, nitrate_reduced}
-use Rattle.reading.specs.declared.form.Form.{Form}
-use Rattle.reading.specs.declared.form.Form.TheVariants.{Asked, NotAForm}
-use Rattle.reading.specs.declared.form.Line.{Line}
+use Rattle.reading.specs.declared.form.Asked.{Asked}
 use Rattle.reading.specs.Text.{newline}
 use Rattle.reading.specs.Line.{is_previewed, read_line, preview_text}
 use Rattle.writing.specs.Answer.{held_text}
-use Rattle.lines.specs.Asking.{request_of, form_outcome, outcome_text}
+use Rattle.lines.specs.Asking.{form_outcome, outcome_text}
 
 -- ---- lines
 
@@ -83,13 +84,13 @@ printed f p s = transcript f p (cut_lines s)
 
 -- ---- the calls and previews that lines ask
 
-abbrev pub entry_of : Form → Line → List Entry → List Entry
-entry_of (Asked call b) l es = entry b (request_of call l) ∷ es
-entry_of NotAForm l es = es
+abbrev pub entry_of : Option Asked → List Entry → List Entry
+entry_of (Some a) es = entry a.preview a.request ∷ es
+entry_of None es = es
 
 unfoldable pub entries : List (List ℕ) → List Entry
 entries [] = []
-entries (l ∷ ls) = entry_of (read_line l).form (read_line l) (entries ls)
+entries (l ∷ ls) = entry_of (read_line l) (entries ls)
 
 -- ---- byte by byte
 
@@ -154,15 +155,16 @@ WrittenLaw = (f : Figures) (p : Plant) (bs : List (List ℕ)) → written f (sta
 -- document 02, E3: a preview of what stands in the line u, for any bytes u
 pub record PreviewGiven (f : Figures) (p : Plant) (u : List ℕ) : Type 0 where
   pub plant : after_line f p (preview_text u) ≡ p
-  pub answer : length (preview_text u) ≤ 1024 → is_previewed (read_line u).form ≡ false → answer_of f p (preview_text u) ≡ answer_of f p u
-  pub nested : is_previewed (read_line u).form ≡ true → given_by f p (preview_text u) ≡ refused p 11
+  pub answer : length (preview_text u) ≤ 1024 → is_previewed (read_line u) ≡ false → answer_of f p (preview_text u) ≡ answer_of f p u
+  pub nested : is_previewed (read_line u) ≡ true → given_by f p (preview_text u) ≡ refused p NoForm
 
 abbrev pub PreviewLaw : Type 0
 PreviewLaw = (f : Figures) (p : Plant) (u : List ℕ) → PreviewGiven f p u
 
 -- the sums over an input's lines, accepted calls alone, against its held line, which is never a refusal
-pub record FileBalanced (f : Figures) (es : List Entry) (held : HeldTotals) : Type 0 where
-  pub told : held.refusal ≡ 0
+pub record FileBalanced (f : Figures) (es : List Entry) (line : Result HeldTotals Refusal) : Type 0 where
+  pub held : HeldTotals
+  pub told : line ≡ Ok held
   pub cod : received f es asm1_cod ≡ held.cod.0 + released f es asm1_cod + burnt f es + gas f es + stripped f es
   pub tkn : received f es (asm1_tkn f) ≡ held.tkn.0 + released f es (asm1_tkn f)
   pub oxygen : received f es asm1_oxygen ≡ held.oxygen.0 + released f es asm1_oxygen + oxygen_reduced f es

@@ -4,12 +4,14 @@ ghost use Rattle.vectors.specs.Figures.{house};
 ghost use Rattle.lines.specs.Asking.{form_outcome, LineAnswered, HeldAnswered};
 
 use holding::held;
-use plant::{Outcome, Plant, Request, refusal};
-use reading::{Form, Line, read_line};
+use plant::{Outcome, Plant, refusal};
+use reading::{Asked, read_line};
+use refusals::Refusal;
 use requests::answer_entry;
 use writing::{write_answer, write_held};
 
-// The outcome of a line, and how many bytes its answer has.
+// The outcome of a line, and how many bytes its answer has: a refusal has an answer too, so that no Result holds both. With the part of
+// the buffer in the place of the length, the promise would say nothing of the bytes behind it.
 #[derive(Clone, Copy)]
 pub struct LineOutcome {
     pub outcome: Outcome,
@@ -22,42 +24,30 @@ pub fn answer_line(plant: Plant, line: &[u8], buf: &mut [u8]) -> LineOutcome
 {
     if buf.len() < 512 {
         return LineOutcome {
-            outcome: refusal(plant, 12),
+            outcome: refusal(plant, Refusal::ShortBuffer),
             length: 0,
         };
     }
     let outcome = form_outcome(plant, read_line(line));
-    let answer = outcome.answer;
-    let vector = outcome.vector;
-    let length = write_answer(buf, answer, vector);
+    let length = write_answer(buf, outcome.answer, outcome.vector);
     LineOutcome { outcome, length }
 }
 
 // What a line that has been read gives on the record.
-fn form_outcome(plant: Plant, l: Line) -> Outcome
-    ensures { result ≡ form_outcome house plant l }
+fn form_outcome(plant: Plant, asked: Option<Asked>) -> Outcome
+    ensures { result ≡ form_outcome house plant asked }
 {
-    let form = l.form;
-    let sludge = l.sludge;
-    let digester = l.digester;
-    match form {
-        Form::Asked { call, preview } => answer_entry(
-            plant,
-            Request {
-                call,
-                sludge,
-                digester,
-            },
-            preview,
-        ),
-        Form::NotAForm => refusal(plant, 11),
+    match asked {
+        Some(a) => answer_entry(plant, a.request, a.preview),
+        None => refusal(plant, Refusal::NoForm),
     }
 }
 
-// The refusal of a held line, 0 where there is none, and how many bytes the line has.
+// The refusal of a held line, if any, and how many bytes the line has: a refused one is told in bytes too, so that a Result
+// of the length would lose theirs.
 #[derive(Clone, Copy)]
 pub struct HeldOutcome {
-    pub refusal: u64,
+    pub refusal: Option<Refusal>,
     pub length: usize,
 }
 
@@ -66,13 +56,15 @@ pub fn held_line(plant: Plant, buf: &mut [u8]) -> HeldOutcome
     ensures { HeldAnswered house plant buf.old result buf.new }
 {
     let totals = held(plant);
-    let refusal = totals.refusal;
     let length = write_held(buf, totals);
     if 512 <= buf.len() {
-        return HeldOutcome { refusal, length };
+        return HeldOutcome {
+            refusal: totals.err(),
+            length,
+        };
     }
     HeldOutcome {
-        refusal: 12,
+        refusal: Some(Refusal::ShortBuffer),
         length,
     }
 }

@@ -2,10 +2,12 @@
 --
 --   Answer, Outcome, Told the enum and the structs of the code
 --   told                  the refusal's number of document 01, or 0, and the values told, for each case of the enum: a refusal tells zeros
+--   refused_with          the refusal of an answer, where it is one
 --   refused               the outcome of a refusal: the record that was handed in, and zeros
---   unless, first         a test that gives its number where it fails; the first number that is given, or 0
---   decide                the outcome, by that number
-use Rattle.std.specs.Prelude.{Bool, cond, List, [], ◌∷◌, ℕ, eqb}
+--   outcome_of            the outcome of a call: its own, or that of the refusal that sends it away
+use Rattle.std.specs.Prelude.{Option, None, Some, Result, Ok, Err, ℕ}
+use Rattle.refusals.specs.declared.Refusal.{Refusal}
+use Rattle.refusals.specs.Refusal.{number}
 use Rattle.plant.specs.declared.record.Plant.{Plant}
 use Rattle.plant.specs.declared.answer.Answer.{Answer}
 use Rattle.plant.specs.declared.answer.Answer.TheVariants.{Refused, Received, Fed, Settled, Returned, Released, Recycled}
@@ -17,7 +19,7 @@ abbrev pub nothing : ℕ → Told
 nothing n = record { number = n; burnt = 0; oxygen = 0; nitrate = 0; warn = 0; stripped = 0 }
 
 abbrev pub told : Answer → Told
-told (Refused n) = nothing n
+told (Refused r) = nothing (number r)
 told Received = nothing 0
 told (Fed b o n w) = record { number = 0; burnt = b.0; oxygen = o.0; nitrate = n.0; warn = w; stripped = 0 }
 told Settled = nothing 0
@@ -25,18 +27,19 @@ told (Returned s) = record { number = 0; burnt = 0; oxygen = 0; nitrate = 0; war
 told Released = nothing 0
 told Recycled = nothing 0
 
-abbrev pub refused : Plant → ℕ → Outcome
-refused p n = record { answer = Refused n; vector = no_columns; plant = p }
+-- the refusal of an answer, where it is one
+abbrev pub refused_with : Answer → Option Refusal
+refused_with (Refused r) = Some r
+refused_with Received = None
+refused_with (Fed b o n w) = None
+refused_with Settled = None
+refused_with (Returned s) = None
+refused_with Released = None
+refused_with Recycled = None
 
--- ---- refusals in the order of their numbers
+abbrev pub refused : Plant → Refusal → Outcome
+refused p r = record { answer = Refused r; vector = no_columns; plant = p }
 
--- 0 where the test holds, else the refusal's number
-unfoldable pub unless : Bool → ℕ → ℕ
-unless b n = cond b 0 n
-
-unfoldable pub first : List ℕ → ℕ
-first [] = 0
-first (n ∷ ns) = cond (eqb n 0) (first ns) n
-
-unfoldable pub decide : Plant → ℕ → Outcome → Outcome
-decide p n o = cond (eqb n 0) o (refused p n)
+abbrev pub outcome_of : Plant → Result Outcome Refusal → Outcome
+outcome_of p (Ok o) = o
+outcome_of p (Err r) = refused p r

@@ -4,7 +4,8 @@
 --                                              none applies
 --   receive, feed, settle, give_back, release   the calls of 01; give_back is its return
 --   recycle                                     the call of E1
---   fed_tests, fed, settled_tests, ..           parts of these that the code's parts cite
+--   fed_tests, fed, fed_told, settled_tests, ..   parts of these
+--   ruled                                      a call's outcome, or the first refusal that applies
 --   rule_by, step_by, step                      any of them, by a request
 --   preview_of                                  a preview of it: E3
 --   outcome_by                                  the one or the other
@@ -14,7 +15,11 @@
 --   request, receiving, feeding, ..             the requests
 --
 -- f is the set of figures; the code has the house set.
-use Rattle.std.specs.Prelude.{Bool, cond, ◌&&◌, List, [], ◌∷◌, ◌≡◌, ℕ, ◌+◌, eqb, replicate}
+use Rattle.std.specs.Prelude.{Bool, cond, ◌&&◌, Option, None, Some, Result, Ok, Err, List, [], ◌∷◌, ◌≡◌, ℕ, ◌+◌, eqb, replicate}
+use Rattle.refusals.specs.declared.Refusal.{Refusal}
+use Rattle.refusals.specs.declared.Refusal.TheVariants.{RecordAbove, NotThousandths, ColumnAbove, CodOpen, TknOpen, CarriedOpen, TankAbove}
+use Rattle.refusals.specs.Refusal.{number, number_of}
+use Rattle.refusals.specs.Tests.{unless, first, decide}
 use Rattle.vectors.specs.declared.figures.Figures.{Figures}
 use Rattle.interface.specs.declared.feed.Fed.{Fed}
 use Rattle.interface.specs.declared.returning.Returned.{Returned}
@@ -32,11 +37,11 @@ use Rattle.plant.specs.declared.answer.Request.{Request}
 use Rattle.plant.specs.declared.answer.Outcome.{Outcome}
 use Rattle.plant.specs.declared.answer.Told.{Told}
 use Rattle.plant.specs.Record.{no_columns, record_within, thousandths}
-use Rattle.plant.specs.Answer.{nothing, told, unless, first, decide}
+use Rattle.plant.specs.Answer.{nothing, told, refused, outcome_of}
 
 -- a call's refusals, in the order in which they are tested, and its outcome where none applies
 pub record Rule : Type 0 where
-  pub tests : List ℕ
+  pub tests : List (Option Refusal)
   pub done : Outcome
 
 -- Receive adds an ASM1 vector to the sludge tank.
@@ -44,9 +49,9 @@ unfoldable pub receive : Plant → List ℕ → Rule
 receive p v =
     record {
       tests =
-          unless (record_within p) 1
-          ∷ unless (within asm1_ceilings v) 3
-          ∷ unless (within asm1_ceilings (added p.sludge v)) 10
+          unless (record_within p) RecordAbove
+          ∷ unless (within asm1_ceilings v) ColumnAbove
+          ∷ unless (within asm1_ceilings (added p.sludge v)) TankAbove
           ∷ [];
       done =
           record {
@@ -56,38 +61,44 @@ receive p v =
           };
     }
 
--- Feed k draws from sludge, converts, and adds to the digester: what is tested of the conversion's outcome o, its own 4 or 6 first, and
--- what becomes of it, where r stays.
-abbrev pub fed_tests : Plant → Fed → List ℕ
-fed_tests p o = o.refusal ∷ unless (within digester_ceilings (added p.digester o.vector)) 10 ∷ []
+-- Feed k draws from sludge, converts, and adds to the digester: what is tested of what the conversion gives, its own 4 or 6 first; what
+-- becomes of it, where r stays; and what it tells.
+abbrev pub fed_tests : Plant → Result Fed Refusal → List (Option Refusal)
+fed_tests p (Ok o) = unless (within digester_ceilings (added p.digester o.vector)) TankAbove ∷ []
+fed_tests p (Err n) = Some n ∷ []
 
-abbrev pub fed : Plant → Fed → List ℕ → Outcome
-fed p o r =
+abbrev pub fed : Plant → Result Fed Refusal → List ℕ → Outcome
+fed p (Err n) r = refused p n
+fed p (Ok o) r =
     record {
       answer = answer.Fed o.burnt o.oxygen o.nitrate o.warn;
       vector = no_columns;
       plant = record { sludge = r; digester = added p.digester o.vector; reject = p.reject };
     }
 
+abbrev pub fed_told : Result Fed Refusal → Told
+fed_told (Err n) = nothing 0
+fed_told (Ok o) = record { number = 0; burnt = o.burnt.0; oxygen = o.oxygen.0; nitrate = o.nitrate.0; warn = o.warn; stripped = 0 }
+
 unfoldable pub feed : Figures → Plant → ℕ → Rule
 feed f p k =
     record {
-      tests = unless (record_within p) 1 ∷ unless (thousandths k) 2 ∷ fed_tests p (feed_of f (drawn k p.sludge));
+      tests = unless (record_within p) RecordAbove ∷ unless (thousandths k) NotThousandths ∷ fed_tests p (feed_of f (drawn k p.sludge));
       done = fed p (feed_of f (drawn k p.sludge)) (rest k p.sludge);
     }
 
 -- Settle takes a digester vector d that the host's solver proposes in the place of old, and a gas COD. sic is free.
-abbrev pub settled_tests : Figures → List ℕ → Milligrams → List ℕ → List ℕ
+abbrev pub settled_tests : Figures → List ℕ → Milligrams → List ℕ → List (Option Refusal)
 settled_tests f old gas d =
-    unless (eqb (digester_cod old) (digester_cod d + gas.0)) 7
-    ∷ unless (eqb (digester_tkn f old) (digester_tkn f d)) 8
-    ∷ unless (eqb (digester_oxygen old) (digester_oxygen d) && eqb (digester_nitrate old) (digester_nitrate d)) 9
+    unless (eqb (digester_cod old) (digester_cod d + gas.0)) CodOpen
+    ∷ unless (eqb (digester_tkn f old) (digester_tkn f d)) TknOpen
+    ∷ unless (eqb (digester_oxygen old) (digester_oxygen d) && eqb (digester_nitrate old) (digester_nitrate d)) CarriedOpen
     ∷ []
 
 unfoldable pub settle : Figures → Plant → Milligrams → List ℕ → Rule
 settle f p gas d =
     record {
-      tests = unless (record_within p) 1 ∷ unless (within digester_ceilings d) 3 ∷ settled_tests f p.digester gas d;
+      tests = unless (record_within p) RecordAbove ∷ unless (within digester_ceilings d) ColumnAbove ∷ settled_tests f p.digester gas d;
       done =
           record {
             answer = answer.Settled;
@@ -96,23 +107,29 @@ settle f p gas d =
           };
     }
 
--- Return k draws from the digester, converts, and adds to reject: what is tested of the conversion's outcome o, its own 5 first, and
--- what becomes of it, where r stays.
-abbrev pub returned_tests : Plant → Returned → List ℕ
-returned_tests p o = o.refusal ∷ unless (within asm1_ceilings (added p.reject o.vector)) 10 ∷ []
+-- Return k draws from the digester, converts, and adds to reject: what is tested of what the conversion gives, its own 5 first; what
+-- becomes of it, where r stays; and what it tells.
+abbrev pub returned_tests : Plant → Result Returned Refusal → List (Option Refusal)
+returned_tests p (Ok o) = unless (within asm1_ceilings (added p.reject o.vector)) TankAbove ∷ []
+returned_tests p (Err n) = Some n ∷ []
 
-abbrev pub returned : Plant → Returned → List ℕ → Outcome
-returned p o r =
+abbrev pub returned : Plant → Result Returned Refusal → List ℕ → Outcome
+returned p (Err n) r = refused p n
+returned p (Ok o) r =
     record {
       answer = answer.Returned o.stripped;
       vector = no_columns;
       plant = record { sludge = p.sludge; digester = r; reject = added p.reject o.vector };
     }
 
+abbrev pub returned_told : Result Returned Refusal → Told
+returned_told (Err n) = nothing 0
+returned_told (Ok o) = record { number = 0; burnt = 0; oxygen = 0; nitrate = 0; warn = 0; stripped = o.stripped.0 }
+
 unfoldable pub give_back : Figures → Plant → ℕ → Rule
 give_back f p k =
     record {
-      tests = unless (record_within p) 1 ∷ unless (thousandths k) 2 ∷ returned_tests p (return_of f (drawn k p.digester));
+      tests = unless (record_within p) RecordAbove ∷ unless (thousandths k) NotThousandths ∷ returned_tests p (return_of f (drawn k p.digester));
       done = returned p (return_of f (drawn k p.digester)) (rest k p.digester);
     }
 
@@ -120,7 +137,7 @@ give_back f p k =
 unfoldable pub release : Plant → ℕ → Rule
 release p k =
     record {
-      tests = unless (record_within p) 1 ∷ unless (thousandths k) 2 ∷ [];
+      tests = unless (record_within p) RecordAbove ∷ unless (thousandths k) NotThousandths ∷ [];
       done =
           record {
             answer = answer.Released;
@@ -134,7 +151,7 @@ unfoldable pub recycle : Plant → ℕ → Rule
 recycle p k =
     let v = drawn k p.reject in
     record {
-      tests = unless (record_within p) 1 ∷ unless (thousandths k) 2 ∷ unless (within asm1_ceilings (added p.sludge v)) 10 ∷ [];
+      tests = unless (record_within p) RecordAbove ∷ unless (thousandths k) NotThousandths ∷ unless (within asm1_ceilings (added p.sludge v)) TankAbove ∷ [];
       done =
           record {
             answer = answer.Recycled;
@@ -154,8 +171,12 @@ rule_by f p (call.Return k) v d = give_back f p k
 rule_by f p (call.Release k) v d = release p k
 rule_by f p (call.Recycle k) v d = recycle p k
 
+-- a call's outcome, or the first refusal that applies
+unfoldable pub ruled : Rule → Result Outcome Refusal
+ruled r = decide (first r.tests) r.done
+
 unfoldable pub step_by : Figures → Plant → Call → List ℕ → List ℕ → Outcome
-step_by f p c v d = let r = rule_by f p c v d in decide p (first r.tests) r.done
+step_by f p c v d = outcome_of p (ruled (rule_by f p c v d))
 
 abbrev pub step : Figures → Plant → Request → Outcome
 step f p r = step_by f p r.call r.sludge r.digester
@@ -168,26 +189,27 @@ preview_of f p r = let o = step f p r in record { answer = o.answer; vector = o.
 abbrev pub outcome_by : Figures → Plant → Bool → Request → Outcome
 outcome_by f p b r = cond b (preview_of f p r) (step f p r)
 
--- the first refusal that applies, or 0
+-- the number of the first refusal that applies, or 0
 abbrev pub refusal_for : Figures → Plant → Request → ℕ
-refusal_for f p r = first (rule_by f p r.call r.sludge r.digester).tests
+refusal_for f p r = number_of (first (rule_by f p r.call r.sludge r.digester).tests)
 
 -- what it tells where no refusal applies: a feed what its conversion burns and reduces, and warn; a return what its conversion strips;
 -- the others nothing
 abbrev pub tells_by : Figures → Plant → Call → Told
 tells_by f p call.Receive = nothing 0
-tells_by f p (call.Feed k) =
-    let o = feed_of f (drawn k p.sludge) in
-    record { number = 0; burnt = o.burnt.0; oxygen = o.oxygen.0; nitrate = o.nitrate.0; warn = o.warn; stripped = 0 }
+tells_by f p (call.Feed k) = fed_told (feed_of f (drawn k p.sludge))
 tells_by f p (call.Settle gas) = nothing 0
-tells_by f p (call.Return k) =
-    record { number = 0; burnt = 0; oxygen = 0; nitrate = 0; warn = 0; stripped = (return_of f (drawn k p.digester)).stripped.0 }
+tells_by f p (call.Return k) = returned_told (return_of f (drawn k p.digester))
 tells_by f p (call.Release k) = nothing 0
 tells_by f p (call.Recycle k) = nothing 0
 
--- the first refusal that applies, with zeros; or 0, with what the call tells
+-- the number of the first refusal that applies, with zeros; or 0, with what the call tells
+abbrev pub told_by : Option Refusal → Told → Told
+told_by (Some r) t = nothing (number r)
+told_by None t = t
+
 unfoldable pub told_for : Figures → Plant → Request → Told
-told_for f p r = let n = refusal_for f p r in cond (eqb n 0) (tells_by f p r.call) (nothing n)
+told_for f p r = told_by (first (rule_by f p r.call r.sludge r.digester).tests) (tells_by f p r.call)
 
 -- an answer tells that number and these values. proofs/Laws/Calls.antt proves it: tells
 abbrev pub TellsLaw : Type 0

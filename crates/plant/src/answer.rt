@@ -1,8 +1,9 @@
 // A call, what it answers, and the outcome.
 ghost use Rattle.std.specs.Prelude.{◌≡◌};
-ghost use Rattle.plant.specs.Answer.{refused, nothing, told};
+ghost use Rattle.plant.specs.Answer.{refused, outcome_of, nothing, told};
 
 use crate::record::Plant;
+use refusals::Refusal;
 use vectors::{Milligrams, Ticks};
 
 // A call. Feed, Return, Release and Recycle have their k, and Settle its gas COD.
@@ -24,10 +25,10 @@ pub struct Request {
     pub digester: [u64; 26],
 }
 
-// What a call answers: a refusal with its number, or the numbers that it tells.
+// What a call answers: a refusal, or the numbers that it tells.
 #[derive(Clone, Copy)]
 pub enum Answer {
-    Refused(u64),
+    Refused(Refusal),
     Received,
     Fed {
         burnt: Milligrams,
@@ -52,17 +53,28 @@ pub struct Outcome {
 }
 
 // A refusal: the record that was handed in, and zeros.
-pub fn refusal(p: Plant, n: u64) -> Outcome
-    ensures { result ≡ refused p n }
+pub fn refusal(p: Plant, r: Refusal) -> Outcome
+    ensures { result ≡ refused p r }
 {
     Outcome {
-        answer: Answer::Refused(n),
+        answer: Answer::Refused(r),
         vector: [0; 13],
         plant: p,
     }
 }
 
-// What an answer tells, as numbers: the refusal's, or 0, and the values; those that it does not tell are 0.
+// A call's own outcome, or that of the refusal that sends it away.
+pub(crate) fn outcome_of(p: Plant, done: Result<Outcome, Refusal>) -> Outcome
+    ensures { result ≡ outcome_of p done }
+{
+    match done {
+        Ok(o) => o,
+        Err(r) => refusal(p, r),
+    }
+}
+
+// What an answer tells, as numbers: the refusal's, or 0, and the values; those that it does not tell are 0. The C interface and the
+// lines tell them so.
 #[derive(Clone, Copy)]
 pub struct Told {
     pub number: u64,
@@ -78,32 +90,24 @@ pub fn told_of(a: Answer) -> Told
     ensures { result ≡ told a }
 {
     match a {
-        Answer::Refused(n) => nothing_but(n),
-        Answer::Received => nothing_but(0),
+        Answer::Refused(r) => nothing_but(r.number()),
         Answer::Fed {
             burnt,
             oxygen,
             nitrate,
             warn,
         } => Told {
-            number: 0,
             burnt: burnt.0,
             oxygen: oxygen.0,
             nitrate: nitrate.0,
             warn,
-            stripped: 0,
+            ..nothing_but(0)
         },
-        Answer::Settled => nothing_but(0),
         Answer::Returned { stripped } => Told {
-            number: 0,
-            burnt: 0,
-            oxygen: 0,
-            nitrate: 0,
-            warn: 0,
             stripped: stripped.0,
+            ..nothing_but(0)
         },
-        Answer::Released => nothing_but(0),
-        Answer::Recycled => nothing_but(0),
+        Answer::Received | Answer::Settled | Answer::Released | Answer::Recycled => nothing_but(0),
     }
 }
 
@@ -125,6 +129,5 @@ fn nothing_but(n: u64) -> Told
 pub fn refusal_of(a: Answer) -> u64
     ensures { result ≡ (told a).number }
 {
-    let t = told_of(a);
-    t.number
+    told_of(a).number
 }

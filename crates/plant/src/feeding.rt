@@ -1,68 +1,47 @@
 // Feed draws k thousandths of the sludge tank, converts them and adds them to the digester.
 ghost use Rattle.std.specs.Prelude.{◌≡◌};
 ghost use Rattle.vectors.specs.Figures.{house};
-ghost use Rattle.plant.specs.Answer.{told, first, decide};
-ghost use Rattle.plant.specs.Calls.{step, told_for, feeding, fed_tests, fed};
+ghost use Rattle.plant.specs.Answer.{told};
+ghost use Rattle.plant.specs.Calls.{step, told_for, ruled, feeding, feed};
 
-use crate::answer::{Answer, Outcome, refusal};
+use crate::answer::{Answer, Outcome, outcome_of};
 use crate::record::{Plant, is_thousandths, record_within};
+use refusals::{Refusal, unless};
 
 // Refusals 1, 2, 4, 6 and 10.
 pub fn feed(plant: Plant, k: u64) -> Outcome
     ensures outcome { result ≡ step house plant (feeding k) }
     ensures tells { told result.answer ≡ told_for house plant (feeding k) }
 {
-    if record_within(plant) {
-        if is_thousandths(k) {
-            let sludge = plant.sludge;
-            let drawn = vectors::asm1_drawn(sludge, k);
-            let rest = vectors::asm1_rest(sludge, k);
-            let o = interface::feed_of(vectors::HOUSE, drawn);
-            return feed_converted(plant, o, rest);
-        }
-        return refusal(plant, 2);
-    }
-    refusal(plant, 1)
+    outcome_of(plant, fed(plant, k))
 }
 
-// The end of a feed: what the conversion gave, and the rest of the sludge.
-fn feed_converted(plant: Plant, o: interface::Fed, rest: [u64; 13]) -> Outcome
-    ensures { result ≡ decide plant (first (fed_tests plant o)) (fed plant o rest) }
+// The same, or the first refusal that applies.
+fn fed(plant: Plant, k: u64) -> Result<Outcome, Refusal>
+    ensures { result ≡ ruled (feed house plant k) }
 {
-    let n = o.refusal;
-    if n == 0 {
-        let digester = plant.digester;
-        let vector = o.vector;
-        if vectors::digester_sum_within(digester, vector) {
-            let sum = vectors::digester_sum(digester, vector);
-            let reject = plant.reject;
-            let next = Plant {
-                sludge: rest,
-                digester: sum,
-                reject: reject,
-            };
-            return Outcome {
-                answer: fed_answer(o),
-                vector: [0; 13],
-                plant: next,
-            };
-        }
-        return refusal(plant, 10);
-    }
-    refusal(plant, n)
-}
-
-// What an accepted feed tells.
-fn fed_answer(o: interface::Fed) -> Answer
-    ensures { result ≡ Answer.Fed o.burnt o.oxygen o.nitrate o.warn }
-{
-    let burnt = o.burnt;
-    let oxygen = o.oxygen;
-    let nitrate = o.nitrate;
-    Answer::Fed {
-        burnt: burnt,
-        oxygen: oxygen,
-        nitrate: nitrate,
-        warn: o.warn,
-    }
+    unless(record_within(plant), Refusal::RecordAbove)?;
+    unless(is_thousandths(k), Refusal::NotThousandths)?;
+    let drawn = vectors::drawn(plant.sludge, k);
+    let o = interface::feed_of(vectors::HOUSE, drawn)?;
+    unless(
+        vectors::sum_is_within(plant.digester, o.vector),
+        Refusal::TankAbove,
+    )?;
+    let sludge = vectors::rest(plant.sludge, k);
+    let digester = vectors::sum(plant.digester, o.vector);
+    Ok(Outcome {
+        answer: Answer::Fed {
+            burnt: o.burnt,
+            oxygen: o.oxygen,
+            nitrate: o.nitrate,
+            warn: o.warn,
+        },
+        vector: [0; 13],
+        plant: Plant {
+            sludge,
+            digester,
+            ..plant
+        },
+    })
 }

@@ -2,37 +2,31 @@
 ghost use Rattle.std.specs.Prelude.{◌≡◌};
 ghost use Rattle.vectors.specs.Figures.{house};
 ghost use Rattle.plant.specs.Answer.{told};
-ghost use Rattle.plant.specs.Calls.{step, told_for, receiving};
+ghost use Rattle.plant.specs.Calls.{step, told_for, ruled, receiving, receive};
 
-use crate::answer::{Answer, Outcome, refusal};
+use crate::answer::{Answer, Outcome, outcome_of};
 use crate::record::{Plant, record_within};
+use refusals::{Refusal, unless};
 
 // Refusals 1, 3 and 10.
 pub fn receive(plant: Plant, v: [u64; 13]) -> Outcome
     ensures outcome { result ≡ step house plant (receiving v) }
     ensures tells { told result.answer ≡ told_for house plant (receiving v) }
 {
-    if record_within(plant) {
-        if vectors::asm1_within(v) {
-            let sludge = plant.sludge;
-            if vectors::asm1_sum_within(sludge, v) {
-                let sum = vectors::asm1_sum(sludge, v);
-                let digester = plant.digester;
-                let reject = plant.reject;
-                let next = Plant {
-                    sludge: sum,
-                    digester: digester,
-                    reject: reject,
-                };
-                return Outcome {
-                    answer: Answer::Received,
-                    vector: [0; 13],
-                    plant: next,
-                };
-            }
-            return refusal(plant, 10);
-        }
-        return refusal(plant, 3);
-    }
-    refusal(plant, 1)
+    outcome_of(plant, received(plant, v))
+}
+
+// The same, or the first refusal that applies.
+fn received(plant: Plant, v: [u64; 13]) -> Result<Outcome, Refusal>
+    ensures { result ≡ ruled (receive plant v) }
+{
+    unless(record_within(plant), Refusal::RecordAbove)?;
+    unless(vectors::is_within(v), Refusal::ColumnAbove)?;
+    unless(vectors::sum_is_within(plant.sludge, v), Refusal::TankAbove)?;
+    let sludge = vectors::sum(plant.sludge, v);
+    Ok(Outcome {
+        answer: Answer::Received,
+        vector: [0; 13],
+        plant: Plant { sludge, ..plant },
+    })
 }

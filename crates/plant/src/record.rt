@@ -3,7 +3,7 @@ ghost use Rattle.std.specs.Prelude.{◌≡◌};
 ghost use Rattle.plant.specs.Record.{fresh_plant, record_within, thousandths};
 
 // Three tanks: sludge and reject are ASM1 vectors, the digester is a digester vector.
-#[derive(Clone, Copy)]
+#[derive(Clone, Copy, PartialEq, Eq)]
 pub struct Plant {
     pub sludge: [u64; 13],
     pub digester: [u64; 26],
@@ -22,26 +22,16 @@ pub fn fresh() -> Plant
 }
 
 // Whether no column of a record is above its ceiling: refusal 1 where it is not.
+#[tactic(auto, unfolding(crate::specs::Record::record_within))]
 pub fn record_within(p: Plant) -> bool
     ensures { result ≡ record_within p }
 {
-    let sludge = p.sludge;
-    let digester = p.digester;
-    let reject = p.reject;
-    if vectors::asm1_within(sludge) {
-        if vectors::digester_within(digester) {
-            return vectors::asm1_within(reject);
-        }
-    }
-    false
+    vectors::is_within(p.sludge) && vectors::is_within(p.digester) && vectors::is_within(p.reject)
 }
 
 // Whether k is from 1 to 1000: refusal 2 where it is not.
 pub fn is_thousandths(k: u64) -> bool
     ensures { result ≡ thousandths k }
 {
-    if 1 <= k {
-        return k <= 1000;
-    }
-    false
+    1 <= k && k <= 1000
 }

@@ -2,39 +2,40 @@
 ghost use Rattle.std.specs.Prelude.{◌≡◌};
 ghost use Rattle.vectors.specs.Figures.{house};
 ghost use Rattle.plant.specs.Answer.{told};
-ghost use Rattle.plant.specs.Calls.{step, told_for, recycling};
+ghost use Rattle.plant.specs.Calls.{step, told_for, ruled, recycling, recycle};
 
-use crate::answer::{Answer, Outcome, refusal};
+use crate::answer::{Answer, Outcome, outcome_of};
 use crate::record::{Plant, is_thousandths, record_within};
+use refusals::{Refusal, unless};
 
 // Refusals 1, 2 and 10.
 pub fn recycle(plant: Plant, k: u64) -> Outcome
     ensures outcome { result ≡ step house plant (recycling k) }
     ensures tells { told result.answer ≡ told_for house plant (recycling k) }
 {
-    if record_within(plant) {
-        if is_thousandths(k) {
-            let sludge = plant.sludge;
-            let reject = plant.reject;
-            let drawn = vectors::asm1_drawn(reject, k);
-            if vectors::asm1_sum_within(sludge, drawn) {
-                let sum = vectors::asm1_sum(sludge, drawn);
-                let rest = vectors::asm1_rest(reject, k);
-                let digester = plant.digester;
-                let next = Plant {
-                    sludge: sum,
-                    digester: digester,
-                    reject: rest,
-                };
-                return Outcome {
-                    answer: Answer::Recycled,
-                    vector: [0; 13],
-                    plant: next,
-                };
-            }
-            return refusal(plant, 10);
-        }
-        return refusal(plant, 2);
-    }
-    refusal(plant, 1)
+    outcome_of(plant, recycled(plant, k))
+}
+
+// The same, or the first refusal that applies.
+fn recycled(plant: Plant, k: u64) -> Result<Outcome, Refusal>
+    ensures { result ≡ ruled (recycle plant k) }
+{
+    unless(record_within(plant), Refusal::RecordAbove)?;
+    unless(is_thousandths(k), Refusal::NotThousandths)?;
+    let drawn = vectors::drawn(plant.reject, k);
+    unless(
+        vectors::sum_is_within(plant.sludge, drawn),
+        Refusal::TankAbove,
+    )?;
+    let sludge = vectors::sum(plant.sludge, drawn);
+    let reject = vectors::rest(plant.reject, k);
+    Ok(Outcome {
+        answer: Answer::Recycled,
+        vector: [0; 13],
+        plant: Plant {
+            sludge,
+            reject,
+            ..plant
+        },
+    })
 }

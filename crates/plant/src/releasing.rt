@@ -2,35 +2,31 @@
 ghost use Rattle.std.specs.Prelude.{◌≡◌};
 ghost use Rattle.vectors.specs.Figures.{house};
 ghost use Rattle.plant.specs.Answer.{told};
-ghost use Rattle.plant.specs.Calls.{step, told_for, releasing};
+ghost use Rattle.plant.specs.Calls.{step, told_for, ruled, releasing, release};
 
-use crate::answer::{Answer, Outcome, refusal};
+use crate::answer::{Answer, Outcome, outcome_of};
 use crate::record::{Plant, is_thousandths, record_within};
+use refusals::{Refusal, unless};
 
 // Refusals 1 and 2.
 pub fn release(plant: Plant, k: u64) -> Outcome
     ensures outcome { result ≡ step house plant (releasing k) }
     ensures tells { told result.answer ≡ told_for house plant (releasing k) }
 {
-    if record_within(plant) {
-        if is_thousandths(k) {
-            let reject = plant.reject;
-            let drawn = vectors::asm1_drawn(reject, k);
-            let rest = vectors::asm1_rest(reject, k);
-            let sludge = plant.sludge;
-            let digester = plant.digester;
-            let next = Plant {
-                sludge: sludge,
-                digester: digester,
-                reject: rest,
-            };
-            return Outcome {
-                answer: Answer::Released,
-                vector: drawn,
-                plant: next,
-            };
-        }
-        return refusal(plant, 2);
-    }
-    refusal(plant, 1)
+    outcome_of(plant, released(plant, k))
+}
+
+// The same, or the first refusal that applies.
+fn released(plant: Plant, k: u64) -> Result<Outcome, Refusal>
+    ensures { result ≡ ruled (release plant k) }
+{
+    unless(record_within(plant), Refusal::RecordAbove)?;
+    unless(is_thousandths(k), Refusal::NotThousandths)?;
+    let drawn = vectors::drawn(plant.reject, k);
+    let reject = vectors::rest(plant.reject, k);
+    Ok(Outcome {
+        answer: Answer::Released,
+        vector: drawn,
+        plant: Plant { reject, ..plant },
+    })
 }

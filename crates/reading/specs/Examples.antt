@@ -2,33 +2,32 @@
 --
 --   Row, ◌asks◌, examples      a line, and what it asks; the table
 --   AllHold, ExamplesHold      each line of a table is read as that; each of this one is
-use Rattle.std.specs.Prelude.{true, false, List, [], ◌∷◌, ◌≡◌, ℕ, replicate}
+use Rattle.std.specs.Prelude.{true, false, Option, List, [], ◌∷◌, ◌≡◌, ℕ, replicate}
 use Prim.Native.String.{String}
 use Rattle.interface.specs.Plants.{Named, ◌is◌, asm1_named, digester_named}
 use Rattle.vectors.specs.Units.{milligrams}
 use Rattle.plant.specs.declared.answer.Call.TheVariants as call
-use Rattle.reading.specs.declared.form.Form.TheVariants.{Asked}
-use Rattle.reading.specs.declared.form.Line.{Line}
+use Rattle.reading.specs.declared.form.Asked.{Asked}
 use Rattle.reading.specs.Text.{ascii}
 use Rattle.reading.specs.Form.{line_of, bare, no_form}
 use Rattle.reading.specs.Line.{read_line}
 
 pub record Row : Type 0 where
   pub line : String
-  pub read : Line
+  pub read : Option Asked
 
 infix 55 ◌asks◌
-abbrev pub ◌asks◌ : String → Line → Row
+abbrev pub ◌asks◌ : String → Option Asked → Row
 s asks l = record { line = s; read = l }
 
-abbrev pub receiving : List Named → Line
-receiving ns = line_of (Asked call.Receive false) (asm1_named ns) (replicate 26 0)
+abbrev pub receiving : List Named → Option Asked
+receiving ns = line_of call.Receive false (asm1_named ns) (replicate 26 0)
 
-abbrev pub settling : ℕ → List Named → Line
-settling g ns = line_of (Asked (call.Settle (milligrams g)) false) (replicate 13 0) (digester_named ns)
+abbrev pub settling : ℕ → List Named → Option Asked
+settling g ns = line_of (call.Settle (milligrams g)) false (replicate 13 0) (digester_named ns)
 
-abbrev pub feeding : ℕ → Line
-feeding k = bare (Asked (call.Feed k) false)
+abbrev pub feeding : ℕ → Option Asked
+feeding k = bare (call.Feed k) false
 
 abbrev pub examples : List Row
 examples =
@@ -36,10 +35,10 @@ examples =
     asks receiving ("ss" is 10000 ∷ "xs" is 30000 ∷ "so" is 5000 ∷ "sno" is 100_000_000 ∷ []))
     ∷ ("(feed 1000)" asks feeding 1000)
     ∷ ("(feed 0)" asks feeding 0)
-    ∷ ("(return 1000)" asks bare (Asked (call.Return 1000) false))
-    ∷ ("(release 1000)" asks bare (Asked (call.Release 1000) false))
-    ∷ ("(recycle 1000)" asks bare (Asked (call.Recycle 1000) false))
-    ∷ ("(recycle 18446744073709551615)" asks bare (Asked (call.Recycle 18_446_744_073_709_551_615) false))
+    ∷ ("(return 1000)" asks bare (call.Return 1000) false)
+    ∷ ("(release 1000)" asks bare (call.Release 1000) false)
+    ∷ ("(recycle 1000)" asks bare (call.Recycle 1000) false)
+    ∷ ("(recycle 18446744073709551615)" asks bare (call.Recycle 18_446_744_073_709_551_615) false)
     ∷ ("(recycle)" asks no_form)
     ∷ ("(recycle 01)" asks no_form)
     ∷ ("(recycle 1 (ss 1))" asks no_form)
@@ -97,14 +96,14 @@ examples =
     ∷ ("(feed 1" asks no_form)
     ∷ ("feed 1)" asks no_form)
     -- previews
-    ∷ ("(preview (feed 1))" asks bare (Asked (call.Feed 1) true))
-    ∷ ("(preview (return 2))" asks bare (Asked (call.Return 2) true))
-    ∷ ("(preview (release 3))" asks bare (Asked (call.Release 3) true))
-    ∷ ("(preview (recycle 4))" asks bare (Asked (call.Recycle 4) true))
+    ∷ ("(preview (feed 1))" asks bare (call.Feed 1) true)
+    ∷ ("(preview (return 2))" asks bare (call.Return 2) true)
+    ∷ ("(preview (release 3))" asks bare (call.Release 3) true)
+    ∷ ("(preview (recycle 4))" asks bare (call.Recycle 4) true)
     ∷ ("(preview (receive (ss 1) (xs 2)))"
-    asks line_of (Asked call.Receive true) (asm1_named ("ss" is 1 ∷ "xs" is 2 ∷ [])) (replicate 26 0))
+    asks line_of call.Receive true (asm1_named ("ss" is 1 ∷ "xs" is 2 ∷ [])) (replicate 26 0))
     ∷ ("(preview (settle 7 (cn 2)))"
-    asks line_of (Asked (call.Settle (milligrams 7)) true) (replicate 13 0) (digester_named ("cn" is 2 ∷ [])))
+    asks line_of (call.Settle (milligrams 7)) true (replicate 13 0) (digester_named ("cn" is 2 ∷ [])))
     ∷ ("(preview (preview (feed 1)))" asks no_form)
     ∷ ("(preview (receive (xs 2) (ss 1)))" asks no_form)
     ∷ ("(preview feed 1)" asks no_form)

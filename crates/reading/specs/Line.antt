@@ -15,14 +15,12 @@
 --   ordered    they are in order
 --   OrderLaw   the lines of read_line are those of any_line that are ordered, and read as there.
 --                       proofs/Laws/Line.antt proves it: order-law
-use Rattle.std.specs.Prelude.{Bool, true, false, cond, ◌&&◌, List, [], ◌∷◌, ◌++◌, ◌≡◌, ℕ, ◌-◌, ◌≤◌, leb, eqb, length, take, drop, get_or}
+use Rattle.std.specs.Prelude.{Bool, true, false, cond, ◌&&◌, Option, Some, None, List, [], ◌∷◌, ◌++◌, ◌≡◌, ℕ, ◌-◌, ◌≤◌, leb, eqb, length, take, drop, get_or}
 use Rattle.reading.specs.declared.names.Vector.TheVariants.{Sludge, Digester}
-use Rattle.reading.specs.declared.form.Form.{Form}
-use Rattle.reading.specs.declared.form.Form.TheVariants.{Asked, NotAForm}
-use Rattle.reading.specs.declared.form.Line.{Line}
+use Rattle.reading.specs.declared.form.Asked.{Asked}
 use Rattle.reading.specs.Text.{ascii, same_bytes, up_to, behind, space, opening, closing}
 use Rattle.reading.specs.Names.{names_of}
-use Rattle.reading.specs.Form.{any_fields, in_order, read_fields, line_of, no_form, Reader, settle_part, form_by}
+use Rattle.reading.specs.Form.{any_fields, in_order, read_fields, no_form, Reader, settle_part, form_by}
 
 -- ---- brackets
 
@@ -35,20 +33,17 @@ inner s = take (length s - 1 - 1) (drop 1 s)
 -- ---- calls and previews
 
 -- the form of a call, its brackets around it
-unfoldable pub call_by : Reader → List ℕ → Line
+unfoldable pub call_by : Reader → List ℕ → Option Asked
 call_by fields s = cond (in_brackets s) (form_by fields (inner s)) no_form
 
 -- a preview of a call: document 02, E3. A preview has none.
-abbrev pub preview_by : Form → Line → Line
-preview_by (Asked call b) l = cond b no_form (line_of (Asked call true) l.sludge l.digester)
-preview_by NotAForm l = no_form
+abbrev pub preview_line : Option Asked → Option Asked
+preview_line (Some a) = cond a.preview no_form (Some (record { request = a.request; preview = true }))
+preview_line None = no_form
 
-abbrev pub preview_line : Line → Line
-preview_line l = preview_by l.form l
-
-abbrev pub is_previewed : Form → Bool
-is_previewed (Asked call b) = b
-is_previewed NotAForm = false
+abbrev pub is_previewed : Option Asked → Bool
+is_previewed (Some a) = a.preview
+is_previewed None = false
 
 -- (preview FORM), and FORM: nine bytes stand before it, and a bracket behind it
 unfoldable pub is_preview : List ℕ → Bool
@@ -58,10 +53,10 @@ abbrev pub form_in : List ℕ → List ℕ
 form_in s = take (length s - 1 - 9) (drop 9 s)
 
 -- a whole line: a preview, or the form of a call
-abbrev pub line_by : Reader → List ℕ → Line
+abbrev pub line_by : Reader → List ℕ → Option Asked
 line_by fields s = cond (is_preview s) (preview_line (call_by fields (form_in s))) (call_by fields s)
 
-unfoldable pub read_line : List ℕ → Line
+unfoldable pub read_line : List ℕ → Option Asked
 read_line s = line_by read_fields s
 
 -- ---- a preview in the place of a line: document 02, E3
@@ -97,7 +92,7 @@ passes test s = cond (is_preview s) (call_passes test (form_in s)) (call_passes 
 
 -- ---- what the order took away: document 02, E2
 
-abbrev pub any_line : List ℕ → Line
+abbrev pub any_line : List ℕ → Option Asked
 any_line s = line_by any_fields s
 
 abbrev pub ordered : List ℕ → Bool

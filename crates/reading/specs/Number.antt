@@ -2,10 +2,8 @@
 --
 --   read_number   the number that bytes stand for, or none
 --   decimal       a number's digits; those of a number below 10^20, as every number of the code is
-use Rattle.std.specs.Prelude.{Bool, true, false, cond, not, ◌&&◌, List, [], ◌∷◌, ℕ, zero, suc, ◌+◌, ◌-◌, ◌*◌, ◌^◌, leb, eqb}
+use Rattle.std.specs.Prelude.{Bool, true, false, cond, not, ◌&&◌, Option, Some, None, List, [], ◌∷◌, ℕ, zero, suc, ◌+◌, ◌-◌, ◌*◌, ◌^◌, leb, eqb}
 use Rattle.io.specs.Digits.{last_digits}
-use Rattle.reading.specs.declared.number.Number.{Number}
-use Rattle.reading.specs.declared.number.Number.TheVariants.{Value, NotANumber}
 
 -- ---- reading
 
@@ -31,11 +29,11 @@ abbrev pub largest : ℕ
 largest = 18_446_744_073_709_551_615
 
 -- digits and no more than 2^64 − 1, after digits that stand for n
-unfoldable pub read_after : ℕ → List ℕ → Number
-read_after n s = cond (all_digits s && leb (value_after n s) largest) (Value (value_after n s)) NotANumber
+unfoldable pub read_after : ℕ → List ℕ → Option ℕ
+read_after n s = cond (all_digits s && leb (value_after n s) largest) (Some (value_after n s)) None
 
-unfoldable pub read_number : List ℕ → Number
-read_number s = cond (leads s) (read_after 0 s) NotANumber
+unfoldable pub read_number : List ℕ → Option ℕ
+read_number s = cond (leads s) (read_after 0 s) None
 
 -- ---- writing
 

@@ -6,17 +6,7 @@ ghost use Rattle.reading.specs.Text.{same_bytes, up_to};
 pub fn same(a: &[u8], b: &[u8]) -> bool
     ensures { result ≡ same_bytes a.now b.now }
 {
-    if a.len() != b.len() {
-        return false;
-    }
-    let mut i = 0;
-    while i < a.len() {
-        if a[i] != b[i] {
-            return false;
-        }
-        i += 1;
-    }
-    true
+    a == b
 }
 
 // The place of the first b at from or behind it, or the length where there is none; from itself where that is behind the end.
@@ -30,7 +20,7 @@ pub fn find_byte(s: &[u8], from: usize, b: u8) -> usize
     place(s, from, b)
 }
 
-// The same where from is not behind the end, four bytes a turn.
+// The same where from is not behind the end. Four bytes a turn, by hand: one a turn was measured as slower (docs/DECISIONS.md, Speed).
 pub fn place(s: &[u8], from: usize, b: u8) -> usize
     requires { from ≤ length s.now }
     ensures { (result ≡ from + length (up_to b (drop from s.now))) × (result ≤ length s.now) }
@@ -54,7 +44,7 @@ pub fn place(s: &[u8], from: usize, b: u8) -> usize
     place_near(s, i, b)
 }
 
-// The same, byte by byte.
+// The same, byte by byte: the last three bytes at most, where the loop above leaves its place.
 fn place_near(s: &[u8], from: usize, b: u8) -> usize
     requires { from ≤ length s.now }
     ensures { (result ≡ from + length (up_to b (drop from s.now))) × (result ≤ length s.now) }

@@ -16,5 +16,6 @@ mod names;
 mod number;
 
 pub use bytes::find_byte;
-pub use form::{Form, Line};
+pub use form::Asked;
 pub use line::read_line;
+pub use names::{ASM1_NAMES, DIGESTER_NAMES};

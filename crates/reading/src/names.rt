@@ -1,9 +1,22 @@
-// Column names: a table has four bytes a name, and the column that a name stands for is its place there.
-ghost use Rattle.std.specs.Prelude.{◌≡◌, ◌+◌, ◌*◌, ◌≤◌, length};
+// Column names: a table has four bytes a name, spaces behind a shorter one, and the column that a name stands for is its place there.
+ghost use Rattle.std.specs.Prelude.{true, ◌≡◌};
 ghost use Rattle.reading.specs.Text.{same_bytes};
-ghost use Rattle.reading.specs.Names.{column_of, from_column, entry_at, entries, IsTable};
+ghost use Rattle.reading.specs.Names.{column_of, from_column, unpadded, unpadded_all, distinct};
 
 use crate::bytes::{place, same};
+
+// The names of the columns of an ASM1 vector.
+pub const ASM1_NAMES: [[u8; 4]; 13] = [
+    *b"si  ", *b"ss  ", *b"xi  ", *b"xs  ", *b"xbh ", *b"xba ", *b"xp  ", *b"so  ", *b"sno ",
+    *b"snh ", *b"snd ", *b"xnd ", *b"salk",
+];
+
+// The names of the columns of a digester vector.
+pub const DIGESTER_NAMES: [[u8; 4]; 26] = [
+    *b"si  ", *b"ssu ", *b"saa ", *b"sfa ", *b"sva ", *b"sbu ", *b"spro", *b"sac ", *b"sh2 ",
+    *b"sch4", *b"xi  ", *b"xc  ", *b"xch ", *b"xpr ", *b"xli ", *b"xsu ", *b"xaa ", *b"xfa ",
+    *b"xc4 ", *b"xpro", *b"xac ", *b"xh2 ", *b"sin ", *b"sic ", *b"co  ", *b"cn  ",
+];
 
 // Which vector a column belongs to.
 #[derive(Clone, Copy)]
@@ -12,49 +25,28 @@ pub enum Vector {
     Digester,
 }
 
-// The column that a name stands for.
-#[derive(Clone, Copy)]
-pub enum Column {
-    At(usize),
-    Unknown,
-}
-
 // The column of the name s, looked for at from and behind it.
-pub fn find(table: &[u8], count: usize, from: usize, s: &[u8]) -> Column
-    requires { IsTable table.now count }
-    ensures { result ≡ from_column from (column_of (entries count table.now) s.now) }
+pub fn find(names: &[[u8; 4]], from: usize, s: &[u8]) -> Option<usize>
+    requires { distinct (unpadded_all names.now) ≡ true }
+    ensures { result ≡ from_column from (column_of (unpadded_all names.now) s.now) }
 {
-    let mut c = from;
-    while c < count {
-        if is_entry(table, c, s) {
-            return Column::At(c);
+    for c in from..names.len() {
+        if is_name(&names[c], s) {
+            return Some(c);
         }
-        c += 1;
     }
-    Column::Unknown
+    None
 }
 
-// Whether s is the name at place c of the table. The second byte tells most names apart.
-fn is_entry(table: &[u8], c: usize, s: &[u8]) -> bool
-    requires { (4 * c + 4 ≤ length table.now) × (c ≤ 26) }
-    ensures { result ≡ same_bytes s.now (entry_at table.now c) }
+// Whether s is the name that the four bytes hold. The second byte tells most names apart.
+fn is_name(name: &[u8; 4], s: &[u8]) -> bool
+    ensures { result ≡ same_bytes s.now (unpadded name.now) }
 {
     if 1 < s.len() {
-        if table[4 * c + 1] != s[1] {
+        if name[1] != s[1] {
             return false;
         }
     }
-    is_whole_entry(table, c, s)
-}
-
-// The same by all bytes.
-fn is_whole_entry(table: &[u8], c: usize, s: &[u8]) -> bool
-    requires { (4 * c + 4 ≤ length table.now) × (c ≤ 26) }
-    ensures { result ≡ same_bytes s.now (entry_at table.now c) }
-{
-    let start = 4 * c;
-    let end = start + 4;
-    let entry = &table[start..end];
-    let k = place(entry, 0, 32);
-    same(s, &entry[..k])
+    let k = place(name, 0, 32);
+    same(s, &name[..k])
 }

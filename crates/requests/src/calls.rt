@@ -11,13 +11,10 @@ pub fn answer_request(plant: Plant, request: Request) -> Outcome
     ensures outcome { result ≡ step house plant request }
     ensures tells { told result.answer ≡ told_for house plant request }
 {
-    let call = request.call;
-    let sludge = request.sludge;
-    let digester = request.digester;
-    match call {
-        Call::Receive => receive(plant, sludge),
+    match request.call {
+        Call::Receive => receive(plant, request.sludge),
         Call::Feed(k) => feed(plant, k),
-        Call::Settle(gas) => settle(plant, gas, digester),
+        Call::Settle(gas) => settle(plant, gas, request.digester),
         Call::Return(k) => give_back(plant, k),
         Call::Release(k) => release(plant, k),
         Call::Recycle(k) => recycle(plant, k),

@@ -7,11 +7,8 @@
 --   run_after                      the run through what was read before and then a block, from what is carried
 --   printed_after                  the same of what is printed
 --   begun_printed, begun_carried   before the first block
---   all_read                       where a reader is at its end, what was read is all that it had
 --   all_printed                    what is written until the input's end and then at the end of the session is what is printed for the input
-use Rattle.std.proofs.Common.{true, List, [], ◌∷◌, ◌++◌, ◌≡◌, ℕ, ◌+◌, ◌-◌, ◌≤◌, length, take, drop, arith, refl, sym, ap, ◌∙◌, subst, append-nil, None, Some, IfSome}
-use Rattle.std.specs.declared.option.Option.{Option}
-use Rattle.std.specs.Io.KnownBytes.{Consumes, IsAtEnd}
+use Rattle.std.proofs.Common.{true, List, [], ◌∷◌, ◌++◌, ◌≡◌, ℕ, ◌+◌, ◌-◌, ◌≤◌, length, take, drop, arith, refl, sym, ap, ◌∙◌, append-nil}
 use Rattle.std.proofs.Math.Seq.{take-add}
 use Rattle.vectors.specs.declared.figures.Figures.{Figures}
 use Rattle.plant.specs.declared.record.Plant.{Plant}
@@ -83,12 +80,3 @@ begun_printed f p = refl
 pub begun_carried : (f : Figures) (p q : Plant) (line : List ℕ) → q ≡ p → carried (place_at 0 0 0 q) line ≡ core (run f (start p) [])
 unfolding run
 begun_carried f p q line e = ap (λ (z : Plant). core (start z)) e
-
-pub all_read : (a b c : Option (List ℕ)) (xs bs : List ℕ) (P : List ℕ → Type 0) → Consumes a b xs → Consumes b c bs → bs ≡ [] → IsAtEnd c
-    → P xs → IfSome a P
-all_read None b c xs bs P p q n e h = tt
-all_read (Some u) None c xs bs P p q n e h = absurd p
-all_read (Some u) (Some v) None xs bs P p q n e h = absurd q
-all_read (Some u) (Some v) (Some w) xs bs P p q n e h =
-    let none : v ≡ [] = q ∙ ap (λ (l : List ℕ). l ++ w) n ∙ e in
-    subst P (sym (p ∙ ap (λ (l : List ℕ). xs ++ l) none ∙ append-nil xs)) h

@@ -1,4 +1,5 @@
--- Laws of laboratory sheets: one file for each file of specs/.
+-- Laws of laboratory sheets.
+pub mod Mapped
 pub mod Value
-pub mod Sheet
 pub mod Examples
+pub mod Sheet

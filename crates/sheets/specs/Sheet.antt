@@ -2,34 +2,37 @@
 --
 --   scales                 counts to the gram, or to the mole, for each ASM1 column
 --   readings               what each entry of a sheet comes to, at its column
---   refusal_in             13 or 14 at the first bad column, or 0
+--   refusal_in             13 or 14 at the first bad column, or none
 --   counts_of, limits_of   the vectors of what the entries count as, and of the counts of their limits
 --   not_sampled            how many entries were not sampled
 --   unseen_of              what a sheet tells: the limits' totals of milligrams, oxygen among them, of ticks and of millimoles,
 --                           and that number
---   sheet_counts      the refusal alone, or all of these
+--   sheet_readings    the refusal, or all the readings
 --   sheet_received    what receive answered, for a sheet
 --   sheet_step        the call: the counts of a sheet that is not turned away go through receive
 --   CountsWithinLaw   no count is above its column's ceiling. proofs/Laws/Sheet.antt proves it: counts-within
 --   SheetTestsLaw     so that a sheet is refused with 13 or 14, 1 and 10, the first that applies: sheet-tests
---   SheetRefusedLaw   a refusal gives the record back and tells zeros: sheet-refused
---   SheetAddsLaw      an accepted sheet adds its counts to the sludge tank: sheet-adds
-use Rattle.std.specs.Prelude.{true, cond, List, [], ◌∷◌, map, ◌≡◌, ℕ, ◌+◌, eqb}
+--   SheetRefusedLaw   a refusal gives the record back: sheet-refused
+--   SheetAddsLaw      an accepted sheet adds its counts to the sludge tank, and tells what lies unseen: sheet-adds
+use Rattle.std.specs.Prelude.{true, false, List, [], ◌∷◌, map, zip, count_by, ◌≡◌, ℕ, ◌+◌, Float, Option, None, Some, Result, Ok, Err}
+use Rattle.std.specs.Result.{result_err, result_map_both}
+use Rattle.refusals.specs.declared.Refusal.{Refusal}
+use Rattle.refusals.specs.declared.Refusal.TheVariants.{RecordAbove, TankAbove}
+use Rattle.refusals.specs.Tests as sent
 use Rattle.vectors.specs.declared.figures.Figures.{Figures}
 use Rattle.vectors.specs.Columns.{asm1, asm1_columns, asm1_ceilings, within, added}
 use Rattle.vectors.specs.Totals.{asm1_cod, asm1_oxygen}
 use Rattle.vectors.specs.Units.{milligrams, ticks, millimoles}
 use Rattle.plant.specs.declared.record.Plant.{Plant}
 use Rattle.plant.specs.declared.answer.Outcome.{Outcome}
-use Rattle.plant.specs.Record.{no_columns, record_within}
-use Rattle.plant.specs.Answer.{told, unless, first}
+use Rattle.plant.specs.Record.{record_within}
+use Rattle.plant.specs.Answer.{refused_with}
 use Rattle.plant.specs.Calls.{step, receiving}
 use Rattle.sheets.specs.declared.finding.Finding.{Finding}
-use Rattle.sheets.specs.declared.finding.Reading.{Reading}
-use Rattle.sheets.specs.declared.sheet.SheetCounts.{SheetCounts}
+use Rattle.sheets.specs.declared.value.Scale.{Scale}
 use Rattle.sheets.specs.declared.call.Unseen.{Unseen}
 use Rattle.sheets.specs.declared.call.SheetOutcome.{SheetOutcome}
-use Rattle.sheets.specs.Value.{reading_of}
+use Rattle.sheets.specs.Value.{reading_of, count, limit, missing}
 
 -- ---- the columns
 
@@ -53,33 +56,40 @@ scales =
       salk = 1_000;
     })
 
--- by scales and ceilings, in the order of the columns
-unfoldable pub readings_by : List ℕ → List ℕ → List Finding → List Reading
-readings_by [] cs xs = []
-readings_by (a ∷ scs) [] xs = []
-readings_by (a ∷ scs) (c ∷ cs) [] = []
-readings_by (a ∷ scs) (c ∷ cs) (x ∷ xs) = reading_of a c x ∷ readings_by scs cs xs
+-- the scale and the ceiling of a column, as the code has them
+abbrev pub per_unit : Scale → ℕ
+per_unit z = z.per_unit
 
-abbrev pub readings : List Finding → List Reading
-readings s = readings_by scales asm1_ceilings s
+abbrev pub ceiling : Scale → ℕ
+ceiling z = z.ceiling
+
+-- ---- readings
+
+abbrev pub Reading : Type 0
+Reading = Result (Finding ℕ) Refusal
+
+-- in the order of the columns
+unfoldable pub readings : List (Finding Float) → List Reading
+readings s = map (λ p. reading_of p.0.0 p.0.1 p.1) (zip (zip scales asm1_ceilings) s)
 
 -- ---- the sheet
 
-abbrev pub refusal_in : List Finding → ℕ
-refusal_in s = first (map (λ (r : Reading). r.refusal) (readings s))
+abbrev pub refusal_in : List (Finding Float) → Option Refusal
+refusal_in s = sent.first (map (λ (r : Reading). result_err r) (readings s))
 
-abbrev pub counts_of : List Finding → List ℕ
-counts_of s = map (λ (r : Reading). r.count) (readings s)
+-- a number of a reading; of one that was refused nobody asks
+abbrev pub read_as : {A : Type 0} → (Finding ℕ → A) → A → Reading → A
+read_as g d (Ok x) = g x
+read_as g d (Err r) = d
 
-abbrev pub limits_of : List Finding → List ℕ
-limits_of s = map (λ (r : Reading). r.limit) (readings s)
+abbrev pub counts_of : List (Finding Float) → List ℕ
+counts_of s = map (read_as count 0) (readings s)
 
-unfoldable pub sum : List ℕ → ℕ
-sum [] = 0
-sum (n ∷ ns) = n + sum ns
+abbrev pub limits_of : List (Finding Float) → List ℕ
+limits_of s = map (read_as limit 0) (readings s)
 
-abbrev pub not_sampled : List Finding → ℕ
-not_sampled s = sum (map (λ (r : Reading). r.missing) (readings s))
+abbrev pub not_sampled : List (Finding Float) → ℕ
+not_sampled s = count_by (read_as missing false) (readings s)
 
 -- ---- what it tells
 
@@ -93,58 +103,65 @@ unseen_by limits n =
       unsampled = n;
     }
 
-abbrev pub unseen_of : List Finding → Unseen
+abbrev pub unseen_of : List (Finding Float) → Unseen
 unseen_of s = unseen_by (limits_of s) (not_sampled s)
-
-abbrev pub nothing_unseen : Unseen
-nothing_unseen = record { milligrams = milligrams 0; ticks = ticks 0; millimoles = millimoles 0; unsampled = 0 }
 
 -- ---- the call
 
-abbrev pub refused_counts : ℕ → SheetCounts
-refused_counts n = record { refusal = n; counts = no_columns; limits = no_columns; missing = 0 }
+-- all of a list, or the first refusal in it
+abbrev pub collected : {A : Type 0} → List (Result A Refusal) → Result (List A) Refusal
+collected [] = Ok []
+collected (Ok x ∷ rs) = result_map_both (λ xs. x ∷ xs) (λ r. r) (collected rs)
+collected (Err r ∷ rs) = Err r
 
-unfoldable pub sheet_counts : List Finding → SheetCounts
-sheet_counts s =
-    let n = refusal_in s in
-    cond (eqb n 0) (record { refusal = 0; counts = counts_of s; limits = limits_of s; missing = not_sampled s }) (refused_counts n)
+abbrev pub sheet_readings : List (Finding Float) → Result (List (Finding ℕ)) Refusal
+sheet_readings s = collected (readings s)
 
-abbrev pub sheet_refused : Plant → ℕ → SheetOutcome
-sheet_refused p n = record { refusal = n; unseen = nothing_unseen; plant = p }
+abbrev pub sheet_refused : Plant → Refusal → SheetOutcome
+sheet_refused p r = record { told = Err r; plant = p }
 
 -- behind receive, whose refusals are 1 and 10; u is what the sheet tells
 abbrev pub sheet_received : Unseen → Outcome → SheetOutcome
-sheet_received u o =
-    let n = (told o.answer).number in
-    cond (eqb n 0) (record { refusal = 0; unseen = u; plant = o.plant }) (sheet_refused o.plant n)
+sheet_received u o = record { told = sent.decide (refused_with o.answer) u; plant = o.plant }
 
-unfoldable pub sheet_step : Figures → Plant → List Finding → SheetOutcome
-sheet_step f p s =
-    let n = refusal_in s in
-    cond (eqb n 0) (sheet_received (unseen_of s) (step f p (receiving (counts_of s)))) (sheet_refused p n)
+-- by the refusal in the sheet
+abbrev pub sheet_by : Option Refusal → Figures → Plant → List (Finding Float) → SheetOutcome
+sheet_by None f p s = sheet_received (unseen_of s) (step f p (receiving (counts_of s)))
+sheet_by (Some r) f p s = sheet_refused p r
+
+unfoldable pub sheet_step : Figures → Plant → List (Finding Float) → SheetOutcome
+sheet_step f p s = sheet_by (refusal_in s) f p s
 
 -- ---- the claims
 
 -- no count is above its column's ceiling: 14 has been given where one would be
 abbrev pub CountsWithinLaw : Type 0
-CountsWithinLaw = (s : List Finding) → within asm1_ceilings (counts_of s) ≡ true
+CountsWithinLaw = (s : List (Finding Float)) → within asm1_ceilings (counts_of s) ≡ true
 
 -- the refusal is the first that applies: that of the first bad column, 1, 10. Receive's 3 is not among them
 abbrev pub SheetTestsLaw : Type 0
 SheetTestsLaw =
-    (f : Figures) (p : Plant) (s : List Finding)
-    → (sheet_step f p s).refusal
-    ≡ first (refusal_in s ∷ unless (record_within p) 1 ∷ unless (within asm1_ceilings (added p.sludge (counts_of s))) 10 ∷ [])
+    (f : Figures) (p : Plant) (s : List (Finding Float))
+    → result_err (sheet_step f p s).told
+    ≡ sent.first
+    (refusal_in s
+    ∷ sent.unless (record_within p) RecordAbove
+    ∷ sent.unless (within asm1_ceilings (added p.sludge (counts_of s))) TankAbove
+    ∷ [])
 
--- a refusal gives the record back and tells zeros
+-- a refusal gives the record back
 abbrev pub SheetRefusedLaw : Type 0
 SheetRefusedLaw =
-    (f : Figures) (p : Plant) (s : List Finding)
-    → ((sheet_step f p s).refusal ≡ 0 → ⊥) → sheet_step f p s ≡ sheet_refused p (sheet_step f p s).refusal
+    (f : Figures) (p : Plant) (s : List (Finding Float)) (r : Refusal)
+    → (sheet_step f p s).told ≡ Err r → sheet_step f p s ≡ sheet_refused p r
 
--- where none applies, the counts are added to the sludge tank, and nothing else of the record moves
+-- where none applies, the counts are added to the sludge tank, nothing else of the record moves, and what lies unseen is told
 abbrev pub SheetAddsLaw : Type 0
 SheetAddsLaw =
-    (f : Figures) (p : Plant) (s : List Finding)
-    → (sheet_step f p s).refusal ≡ 0
-    → (sheet_step f p s).plant ≡ record { sludge = added p.sludge (counts_of s); digester = p.digester; reject = p.reject }
+    (f : Figures) (p : Plant) (s : List (Finding Float)) (u : Unseen)
+    → (sheet_step f p s).told ≡ Ok u
+    → sheet_step f p s
+    ≡ record {
+      told = Ok (unseen_of s);
+      plant = record { sludge = added p.sludge (counts_of s); digester = p.digester; reject = p.reject };
+    }

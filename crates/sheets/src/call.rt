@@ -1,13 +1,15 @@
 // A sheet into the sludge tank.
-ghost use Rattle.std.specs.Prelude.{◌≡◌};
+ghost use Rattle.std.specs.Prelude.{◌≡◌, map, count_by};
 ghost use Rattle.vectors.specs.Columns.{asm1_ceilings, Below};
 ghost use Rattle.vectors.specs.Figures.{house};
-ghost use Rattle.sheets.specs.Sheet.{sheet_step, sheet_refused, sheet_received, unseen_by};
+ghost use Rattle.sheets.specs.Value.{limit, missing};
+ghost use Rattle.sheets.specs.Sheet.{sheet_step, sheet_received, unseen_by};
 
 use crate::finding::Finding;
-use crate::sheet::{SheetCounts, read_sheet};
-use plant::{Outcome, Plant};
-use vectors::{Milligrams, Millimoles, Ticks};
+use crate::sheet::{counts_of, limits_of, read_sheet, unsampled};
+use plant::{Answer, Outcome, Plant};
+use refusals::Refusal;
+use vectors::{Milligrams, Millimoles, Ticks, Unit};
 
 // What lies unseen below the detection limits, at most: milligrams of COD and oxygen, ticks, millimoles; and how many columns were
 // not sampled.
@@ -19,74 +21,53 @@ pub struct Unseen {
     pub unsampled: u64,
 }
 
-// The refusal's number, or 0; what is told, zeros where it is refused; and the new record.
+// What is told, or the refusal; and the new record, which is the one that was handed in where it is refused.
 #[derive(Clone, Copy)]
 pub struct SheetOutcome {
-    pub refusal: u64,
-    pub unseen: Unseen,
+    pub told: Result<Unseen, Refusal>,
     pub plant: Plant,
 }
 
 // Refusals 13 and 14, at the first bad column, and then receive's 1 and 10.
-pub fn receive_sheet(plant: Plant, sheet: [Finding; 13]) -> SheetOutcome
+pub fn receive_sheet(plant: Plant, sheet: [Finding<f32>; 13]) -> SheetOutcome
     ensures { result ≡ sheet_step house plant sheet }
 {
-    let s = read_sheet(sheet);
-    if s.refusal == 0 {
-        let counts = s.counts;
-        let o = plant::receive(plant, counts);
-        return received(s, o);
+    match read_sheet(sheet) {
+        Ok(readings) => {
+            let unseen = unseen_in(readings);
+            received(unseen, plant::receive(plant, counts_of(readings)))
+        }
+        Err(refusal) => SheetOutcome {
+            told: Err(refusal),
+            plant,
+        },
     }
-    refused(plant, s.refusal)
 }
 
 // What receive's outcome is for a sheet.
-fn received(s: SheetCounts, o: Outcome) -> SheetOutcome
-    requires { Below asm1_ceilings s.limits }
-    ensures { result ≡ sheet_received (unseen_by s.limits s.missing) o }
+fn received(unseen: Unseen, o: Outcome) -> SheetOutcome
+    ensures { result ≡ sheet_received unseen o }
 {
-    let answer = o.answer;
-    let next = o.plant;
-    let n = plant::refusal_of(answer);
-    if n == 0 {
-        let limits = s.limits;
-        let unseen = unseen_by(limits, s.missing);
-        return SheetOutcome {
-            refusal: 0,
-            unseen,
-            plant: next,
-        };
+    SheetOutcome {
+        told: match o.answer {
+            Answer::Refused(r) => Err(r),
+            _ => Ok(unseen),
+        },
+        plant: o.plant,
     }
-    refused(next, n)
 }
 
 // The totals of the limits' counts.
-fn unseen_by(limits: [u64; 13], missing: u64) -> Unseen
-    requires { Below asm1_ceilings limits }
-    ensures { result ≡ unseen_by limits missing }
+fn unseen_in(readings: [Finding<u64>; 13]) -> Unseen
+    requires { Below asm1_ceilings (map limit readings) }
+    ensures { result ≡ unseen_by (map limit readings) (count_by missing readings) }
 {
-    let cod = vectors::asm1_cod(limits);
-    let milligrams = cod.plus(Milligrams(limits[7]));
+    let limits = limits_of(readings);
+    let cod = vectors::cod(limits);
     Unseen {
-        milligrams,
+        milligrams: cod.plus(Milligrams(limits[7])),
         ticks: Ticks(limits[8] + limits[9] + limits[10] + limits[11]),
         millimoles: Millimoles(limits[12]),
-        unsampled: missing,
-    }
-}
-
-// A refusal: the record that was handed in, and zeros.
-fn refused(p: Plant, n: u64) -> SheetOutcome
-    ensures { result ≡ sheet_refused p n }
-{
-    SheetOutcome {
-        refusal: n,
-        unseen: Unseen {
-            milligrams: Milligrams(0),
-            ticks: Ticks(0),
-            millimoles: Millimoles(0),
-            unsampled: 0,
-        },
-        plant: p,
+        unsampled: unsampled(readings),
     }
 }

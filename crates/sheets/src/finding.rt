@@ -1,68 +1,52 @@
 // An entry of a sheet, and what it comes to at its column.
-ghost use Rattle.std.specs.Prelude.{◌≡◌, ◌≤◌};
-ghost use Rattle.sheets.specs.Value.{reading_of};
+ghost use Rattle.std.specs.Prelude.{◌≡◌};
+ghost use Rattle.sheets.specs.Value.{reading_of, count, limit};
 
-use crate::value::count_value;
+use crate::value::Scale;
+use refusals::Refusal;
 
-// A measured value, a result below a detection limit with that limit, both in grams or moles, or not sampled.
+// A measured value, a result below a detection limit with that limit, or not sampled: as it is sent, in grams or moles, and as it is
+// counted.
 #[derive(Clone, Copy)]
-pub enum Finding {
-    Measured(f32),
-    BelowLimit(f32),
+pub enum Finding<T> {
+    Measured(T),
+    BelowLimit(T),
     NotSampled,
 }
 
-// What an entry comes to: its refusal, 13 or 14, or 0; what it counts as; the count of its limit; 1 where it was not sampled.
-#[derive(Clone, Copy)]
-pub struct Reading {
-    pub refusal: u64,
-    pub count: u64,
-    pub limit: u64,
-    pub missing: u64,
-}
-
-// By a column's scale and ceiling.
-pub fn read_finding(x: Finding, scale: u64, ceiling: u64) -> Reading
-    requires { scale ≤ 10000000 }
-    ensures { result ≡ reading_of scale ceiling x }
-{
-    match x {
-        Finding::Measured(v) => read_measured(v, scale, ceiling),
-        Finding::BelowLimit(v) => read_limit(v, scale, ceiling),
-        Finding::NotSampled => Reading {
-            refusal: 0,
-            count: 0,
-            limit: 0,
-            missing: 1,
-        },
+impl Finding<f32> {
+    // By a column's scale. Refusals 13 and 14.
+    pub(crate) fn read(self, scale: Scale) -> Result<Finding<u64>, Refusal>
+        ensures { result ≡ reading_of scale.per_unit scale.ceiling self }
+    {
+        Ok(match self {
+            Finding::Measured(x) => Finding::Measured(scale.count(x)?),
+            Finding::BelowLimit(x) => Finding::BelowLimit(scale.count(x)?),
+            Finding::NotSampled => Finding::NotSampled,
+        })
     }
 }
 
-// A measured value is what is counted.
-fn read_measured(v: f32, scale: u64, ceiling: u64) -> Reading
-    requires { scale ≤ 10000000 }
-    ensures { result ≡ reading_of scale ceiling (Finding.Measured v) }
-{
-    let c = count_value(v, scale, ceiling);
-    Reading {
-        refusal: c.refusal,
-        count: c.count,
-        limit: 0,
-        missing: 0,
+impl Finding<u64> {
+    // A measured value is what is counted.
+    pub(crate) fn count(self) -> u64
+        ensures { result ≡ count self }
+    {
+        match self {
+            Finding::Measured(n) => n,
+            Finding::BelowLimit(_) => 0,
+            Finding::NotSampled => 0,
+        }
     }
-}
 
-// A result below its limit counts as zero, and the limit's count is told.
-fn read_limit(v: f32, scale: u64, ceiling: u64) -> Reading
-    requires { scale ≤ 10000000 }
-    ensures { result ≡ reading_of scale ceiling (Finding.BelowLimit v) }
-{
-    let c = count_value(v, scale, ceiling);
-    let count = 0;
-    Reading {
-        refusal: c.refusal,
-        count,
-        limit: c.count,
-        missing: 0,
+    // A result below its limit counts as zero, and the limit's count is told.
+    pub(crate) fn limit(self) -> u64
+        ensures { result ≡ limit self }
+    {
+        match self {
+            Finding::Measured(_) => 0,
+            Finding::BelowLimit(n) => n,
+            Finding::NotSampled => 0,
+        }
     }
 }

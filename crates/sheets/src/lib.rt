@@ -2,7 +2,7 @@
 //
 //   finding    an entry of a sheet, and what it comes to at its column
 //   value      one value or limit: the floor of it times a scale, by its bits
-//   sheet      thirteen entries: their counts, or the first refusal
+//   sheet      thirteen entries: what each comes to, or the first refusal
 //   call       a sheet into the sludge tank
 #![tactic(auto)]
 

@@ -1,78 +1,72 @@
-// Thirteen entries in the order of the ASM1 columns: their counts, or the first refusal.
-ghost use Rattle.std.specs.Prelude.{◌≡◌};
-ghost use Rattle.sheets.specs.Sheet.{refused_counts, sheet_counts};
+// Thirteen entries in the order of the ASM1 columns: what each comes to, or the first refusal.
+ghost use Rattle.std.specs.Prelude.{◌≡◌, map, count_by};
+ghost use Rattle.sheets.specs.Value.{count, limit, missing};
+ghost use Rattle.vectors.specs.Columns.{asm1_ceilings};
+ghost use Rattle.sheets.specs.Sheet.{scales, per_unit, ceiling, sheet_readings};
 
-use crate::finding::{Finding, read_finding};
+use crate::finding::Finding;
+use crate::value::Scale;
+use refusals::Refusal;
 
 // Counts to the gram of COD or of oxygen, to the mole of salk, and to the gram of nitrogen.
 const PER_GRAM: u64 = 1000;
 
 const TICKS_PER_GRAM: u64 = 10000000;
 
-// The scales in document 01's order of columns.
-const SCALES: [u64; 13] = [
-    PER_GRAM,
-    PER_GRAM,
-    PER_GRAM,
-    PER_GRAM,
-    PER_GRAM,
-    PER_GRAM,
-    PER_GRAM,
-    PER_GRAM,
-    TICKS_PER_GRAM,
-    TICKS_PER_GRAM,
-    TICKS_PER_GRAM,
-    TICKS_PER_GRAM,
-    PER_GRAM,
-];
+// A column of COD, oxygen or moles, and one of nitrogen.
+const GRAMS: Scale = Scale {
+    per_unit: PER_GRAM,
+    ceiling: vectors::COD_CEILING,
+};
 
-// The refusal, 13 or 14, of the first bad column, and zeros; or 0, what the entries count as, the counts of their limits, and how
-// many were not sampled.
-#[derive(Clone, Copy)]
-pub struct SheetCounts {
-    pub refusal: u64,
-    pub counts: [u64; 13],
-    pub limits: [u64; 13],
-    pub missing: u64,
-}
+const NITROGEN: Scale = Scale {
+    per_unit: TICKS_PER_GRAM,
+    ceiling: vectors::TICK_CEILING,
+};
 
 // It stops at the first bad column.
-pub fn read_sheet(sheet: [Finding; 13]) -> SheetCounts
-    ensures { result ≡ sheet_counts sheet }
+pub fn read_sheet(sheet: [Finding<f32>; 13]) -> Result<[Finding<u64>; 13], Refusal>
+    ensures { result ≡ sheet_readings sheet }
 {
-    let scales = SCALES;
-    let ceilings = vectors::ASM1_CEILINGS;
-    let mut counts = [0u64; 13];
-    let mut limits = [0u64; 13];
-    let mut missing = 0u64;
-    let mut i = 0usize;
-    while i < 13 {
-        let x = sheet[i];
-        let r = read_finding(x, scales[i], ceilings[i]);
-        if r.refusal != 0 {
-            return refused_counts(r.refusal);
-        }
-        counts[i] = r.count;
-        limits[i] = r.limit;
-        missing = missing + r.missing;
-        i += 1;
+    let scales = scales();
+    let mut readings = [Finding::NotSampled; 13];
+    for i in 0..13 {
+        readings[i] = sheet[i].read(scales[i])?;
     }
-    SheetCounts {
-        refusal: 0,
-        counts,
-        limits,
-        missing,
-    }
+    Ok(readings)
 }
 
-// A refusal and zeros.
-fn refused_counts(n: u64) -> SheetCounts
-    ensures { result ≡ refused_counts n }
+// The scales in document 01's order of columns.
+fn scales() -> [Scale; 13]
+    ensures counts { map per_unit result ≡ scales }
+    ensures ceilings { map ceiling result ≡ asm1_ceilings }
 {
-    SheetCounts {
-        refusal: n,
-        counts: [0; 13],
-        limits: [0; 13],
-        missing: 0,
-    }
+    [
+        GRAMS, GRAMS, GRAMS, GRAMS, GRAMS, GRAMS, GRAMS, GRAMS, NITROGEN, NITROGEN, NITROGEN,
+        NITROGEN, GRAMS,
+    ]
+}
+
+// What the entries count as.
+pub fn counts_of(readings: [Finding<u64>; 13]) -> [u64; 13]
+    ensures { result ≡ map count readings }
+{
+    readings.map(|r| r.count())
+}
+
+// The counts of their limits.
+pub fn limits_of(readings: [Finding<u64>; 13]) -> [u64; 13]
+    ensures { result ≡ map limit readings }
+{
+    readings.map(|r| r.limit())
+}
+
+// How many were not sampled.
+pub fn unsampled(readings: [Finding<u64>; 13]) -> u64
+    ensures { result ≡ count_by missing readings }
+{
+    readings
+        .iter()
+        .filter(|r| matches!(r, Finding::NotSampled))
+        .count() as u64
 }

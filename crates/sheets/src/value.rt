@@ -2,97 +2,86 @@
 ghost use Rattle.std.specs.Prelude.{◌≡◌, ◌*◌, ◌/◌, ◌^◌, ◌≤◌, ◌<◌};
 ghost use Rattle.sheets.specs.Value.{counted_of, capped, size_of};
 
-// A refusal, 13 or 14, with no count, or 0 with the count.
+use refusals::Refusal;
+
+// The exponent's field of infinity, and of what is no number.
+const TOP_FIELD: u32 = 255;
+
+// How a column counts: its counts to the gram or to the mole, and its ceiling.
 #[derive(Clone, Copy)]
-pub struct Counted {
-    pub refusal: u64,
-    pub count: u64,
+pub struct Scale {
+    pub per_unit: u64,
+    pub ceiling: u64,
+    pub ghost bound: { per_unit ≤ 10000000 },
 }
 
-// A NaN is not at least zero, nor is a value below zero, so that the bits that are read are those of a number, of minus zero or of
-// infinity.
-pub fn count_value(x: f32, scale: u64, ceiling: u64) -> Counted
-    requires { scale ≤ 10000000 }
-    ensures { result ≡ counted_of scale ceiling x }
-{
-    if x >= 0.0 {
-        let bits = f32::to_bits(x) as u64;
-        let field = bits % 2147483648 / 8388608;
-        let digits = bits % 8388608;
-        if field < 255 {
-            return count_fields(field, digits, scale, ceiling);
+impl Scale {
+    // Refusals 13 and 14. A NaN is not at least zero, nor is a value below zero, so that the bits that are read are those of a number,
+    // of minus zero or of infinity. The library has no method for the parts of a float, so that they are taken off the bits.
+    pub fn count(self, x: f32) -> Result<u64, Refusal>
+        ensures { result ≡ counted_of self.per_unit self.ceiling x }
+    {
+        if x >= 0.0 {
+            let bits = x.to_bits();
+            let field = bits % 0x80000000 / 0x800000;
+            let digits = bits % 0x800000;
+            if field < TOP_FIELD {
+                let (m, k) = parts(field, digits);
+                return self.count_size(m, k);
+            }
         }
+        Err(Refusal::NoAmount)
     }
-    Counted {
-        refusal: 13,
-        count: 0,
+
+    // m × 2^k of the smallest values, of which 2^149 are 1.
+    fn count_size(self, m: u32, k: u32) -> Result<u64, Refusal>
+        requires { m < 16777216 }
+        ensures { result ≡ capped self.ceiling (m * 2 ^ k * self.per_unit / 2 ^ 149) }
+    {
+        let product = u64::from(m) * self.per_unit;
+        if k < 149 {
+            let n = shifted_down(product, 149 - k);
+            return self.at_most(n);
+        }
+        self.shifted_up(product, k - 149)
+    }
+
+    // A count, where it is not above the ceiling.
+    fn at_most(self, n: u64) -> Result<u64, Refusal>
+        ensures { result ≡ capped self.ceiling n }
+    {
+        if n <= self.ceiling {
+            return Ok(n);
+        }
+        Err(Refusal::CountAbove)
+    }
+
+    // n × 2^by, where it is not above the ceiling.
+    fn shifted_up(self, n: u64, by: u32) -> Result<u64, Refusal>
+        ensures { result ≡ capped self.ceiling (n * 2 ^ by) }
+    {
+        if n <= shifted_down(self.ceiling, by) {
+            return Ok(n.checked_shl(by).unwrap_or(0));
+        }
+        Err(Refusal::CountAbove)
     }
 }
 
-// By the exponent's field and the digits below the leading one, which a field of 0 has not.
-fn count_fields(field: u64, digits: u64, scale: u64, ceiling: u64) -> Counted
-    requires { (scale ≤ 10000000) × (digits < 8388608) }
-    ensures { result ≡ capped ceiling (size_of field digits * scale / 2 ^ 149) }
+// m and k of m × 2^k, by the exponent's field and the digits below the leading one, which a field of 0 has not.
+fn parts(field: u32, digits: u32) -> (u32, u32)
+    requires { digits < 8388608 }
+    ensures size { result.0 * 2 ^ result.1 ≡ size_of field digits }
+    ensures digits { result.0 < 16777216 }
 {
     if field == 0 {
-        return count_size(digits, 0, scale, ceiling);
+        return (digits, 0);
     }
-    count_size(8388608 + digits, field - 1, scale, ceiling)
-}
-
-// m × 2^k of the smallest values, of which 2^149 are 1.
-fn count_size(m: u64, k: u64, scale: u64, ceiling: u64) -> Counted
-    requires { (scale ≤ 10000000) × (m < 16777216) }
-    ensures { result ≡ capped ceiling (m * 2 ^ k * scale / 2 ^ 149) }
-{
-    let product = m * scale;
-    if k < 149 {
-        let n = shifted_down(product, 149 - k);
-        return at_most(n, ceiling);
-    }
-    shifted_up(product, k - 149, ceiling)
+    (8388608 + digits, field - 1)
 }
 
 // The floor of n / 2^by.
-fn shifted_down(n: u64, by: u64) -> u64
+fn shifted_down(n: u64, by: u32) -> u64
     ensures { result ≡ n / 2 ^ by }
 {
-    if by < 64 {
-        return n >> by;
-    }
-    0
-}
-
-// n × 2^by, up to the ceiling.
-fn shifted_up(n: u64, by: u64, ceiling: u64) -> Counted
-    ensures { result ≡ capped ceiling (n * 2 ^ by) }
-{
-    if n == 0 {
-        return at_most(0, ceiling);
-    }
-    if by < 64 {
-        if n <= ceiling >> by {
-            return at_most(n << by, ceiling);
-        }
-    }
-    Counted {
-        refusal: 14,
-        count: 0,
-    }
-}
-
-// A count, or 14 where it is above the ceiling.
-fn at_most(n: u64, ceiling: u64) -> Counted
-    ensures { result ≡ capped ceiling n }
-{
-    if n <= ceiling {
-        return Counted {
-            refusal: 0,
-            count: n,
-        };
-    }
-    Counted {
-        refusal: 14,
-        count: 0,
-    }
+    n.checked_shr(by).unwrap_or(0)
 }

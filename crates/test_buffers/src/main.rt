@@ -3,72 +3,62 @@
 #![tactic(auto)]
 
 use plant::{Answer, Plant};
+use refusals::Refusal;
+use test_show::places::asm1::SS;
 use vectors::{Milligrams, Ticks};
 
-// Buffers of no byte, of one, around 512, and longer than any answer.
+// Buffers of no byte, of one, around 512, and longer than any answer: the first bytes of a space.
 fn main() {
     let mut space = [0u8; 1100];
-    first(&mut space, 0);
-    first(&mut space, 1);
-    first(&mut space, 511);
-    first(&mut space, 512);
-    first(&mut space, 513);
-    first(&mut space, 1025);
-    first(&mut space, 1100);
-}
-
-// The first n bytes of a space are lent.
-fn first(space: &mut [u8], n: usize) {
-    if n <= space.len() {
-        all(&mut space[..n]);
+    for n in [0, 1, 511, 512, 513, 1025, 1100] {
+        if let Some(buf) = space.get_mut(..n) {
+            all(buf);
+        }
     }
 }
 
 // Lines of each kind, held lines, the longest answer, and each kind of answer handed back.
 fn all(buf: &mut [u8]) {
-    lines_of_each_kind(buf);
-    lines_of_reject(buf);
-    held(buf, 0);
-    held(buf, 1000000000000);
-    held(buf, 1000000000001);
+    for s in LINES {
+        line(buf, s);
+    }
+    for ss in [0, 1000000000000, 1000000000001] {
+        held(buf, ss);
+    }
     longest(buf);
     each_kind_handed_back(buf);
 }
 
-// Lines that are accepted, that are refused, and that are no form.
-fn lines_of_each_kind(buf: &mut [u8]) {
-    line(buf, b"(receive (ss 10))");
-    line(buf, b"(feed 1)");
-    line(buf, b"(feed 0)");
-    line(buf, b"(feed 00)");
-    line(buf, b"");
-    line(buf, b"(settle 0)");
-    line(buf, b"(return 1000)");
-}
-
-// Lines that draw from the reject tank.
-fn lines_of_reject(buf: &mut [u8]) {
-    line(buf, b"(release 1000)");
-    line(buf, b"(recycle 1000)");
-}
+// Lines that are accepted, that are refused, that are no form, and two that draw from the reject tank.
+const LINES: [&[u8]; 9] = [
+    b"(receive (ss 10))",
+    b"(feed 1)",
+    b"(feed 0)",
+    b"(feed 00)",
+    b"",
+    b"(settle 0)",
+    b"(return 1000)",
+    b"(release 1000)",
+    b"(recycle 1000)",
+];
 
 // The answer to a line on a fresh record.
 fn line(buf: &mut [u8], s: &[u8]) {
     test_show::fill(buf);
-    let p = plant::fresh();
-    let a = lines::answer_line(p, s, buf);
-    let o = a.outcome;
-    let answer = o.answer;
-    test_show::number(b"refusal ", plant::refusal_of(answer));
+    let a = lines::answer_line(plant::fresh(), s, buf);
+    test_show::number(b"refusal ", plant::refusal_of(a.outcome.answer));
     tell(buf, a.length);
 }
 
 // The held line of a record with ss in its reject tank.
 fn held(buf: &mut [u8], ss: u64) {
     test_show::fill(buf);
-    let p = plant_with(ss);
+    let p = Plant {
+        reject: test_show::with([0; 13], &[(SS, ss)]),
+        ..plant::fresh()
+    };
     let h = lines::held_line(p, buf);
-    test_show::number(b"refusal ", h.refusal);
+    test_show::number(b"refusal ", h.refusal.map_or(0, |r| r.number()));
     tell(buf, h.length);
 }
 
@@ -81,19 +71,27 @@ fn longest(buf: &mut [u8]) {
     tell(buf, k);
 }
 
-// An answer of each kind, and a refusal with the longest number.
+// An answer of each kind, and a refusal with the longest number; a release hands out a vector.
 fn each_kind_handed_back(buf: &mut [u8]) {
-    let none = [0u64; 13];
-    let v = [1, 2, 3, 4, 5, 6, 7, 8, 9, 10, 11, 12, 13];
-    handed_back(buf, Answer::Received, none);
-    handed_back(buf, fed(), none);
-    handed_back(buf, Answer::Settled, none);
-    let stripped = Milligrams(14);
-    handed_back(buf, Answer::Returned { stripped }, none);
-    handed_back(buf, Answer::Released, v);
-    handed_back(buf, Answer::Recycled, none);
-    handed_back(buf, Answer::Refused(7), none);
-    handed_back(buf, Answer::Refused(18446744073709551615), none);
+    let kinds = [
+        Answer::Received,
+        fed(),
+        Answer::Settled,
+        Answer::Returned {
+            stripped: Milligrams(14),
+        },
+        Answer::Released,
+        Answer::Recycled,
+        Answer::Refused(Refusal::CodOpen),
+        Answer::Refused(Refusal::Other(18446744073709551615)),
+    ];
+    for a in kinds {
+        let v = match a {
+            Answer::Released => [1, 2, 3, 4, 5, 6, 7, 8, 9, 10, 11, 12, 13],
+            _ => [0; 13],
+        };
+        handed_back(buf, a, v);
+    }
 }
 
 // What a feed tells: four numbers that differ.
@@ -116,20 +114,6 @@ fn handed_back(buf: &mut [u8], a: Answer, v: [u64; 13]) {
     let k = part.len();
     test_show::text(b"]");
     test_show::behind(buf, k);
-}
-
-// A record with ss in its reject tank.
-fn plant_with(ss: u64) -> Plant {
-    let p = plant::fresh();
-    let sludge = p.sludge;
-    let digester = p.digester;
-    let mut reject = p.reject;
-    reject[1] = ss;
-    Plant {
-        sludge,
-        digester,
-        reject,
-    }
 }
 
 // The buffer's length, the part that an answer of n bytes fills, and what is behind it.

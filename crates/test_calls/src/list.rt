@@ -1,13 +1,30 @@
 // A list of calls and previews from a fresh record, with the sums of demand 3 added up from the calls and their answers.
-use plant::{Answer, Call, Plant, Request};
+use plant::{Answer, Call, Outcome, Plant, Request};
+use std::ops::Add;
+use test_show::places::{asm1, digester};
+use vectors::Milligrams;
 
 // One total of each balance.
-#[derive(Clone, Copy)]
+#[derive(Clone, Copy, Default)]
 pub struct Amounts {
     pub cod: u64,
     pub tkn: u64,
     pub oxygen: u64,
     pub nitrate: u64,
+}
+
+// Totals are added column by column, as far as 64 bits go.
+impl Add for Amounts {
+    type Output = Amounts;
+
+    fn add(self, more: Amounts) -> Amounts {
+        Amounts {
+            cod: self.cod.wrapping_add(more.cod),
+            tkn: self.tkn.wrapping_add(more.tkn),
+            oxygen: self.oxygen.wrapping_add(more.oxygen),
+            nitrate: self.nitrate.wrapping_add(more.nitrate),
+        }
+    }
 }
 
 // The record, what was received, and what was released, burnt, reduced, vented or stripped; and how many calls were accepted.
@@ -23,11 +40,9 @@ pub struct Run {
 pub fn balances() {
     let mut run = start();
     let mut x: u64 = 20261115;
-    let mut i: u64 = 0;
-    while i < 240 {
+    for i in 0..240 {
         run = one_call(run, x / 64, i);
         x = next(x);
-        i += 1;
     }
     report(run);
 }
@@ -35,18 +50,9 @@ pub fn balances() {
 pub fn start() -> Run {
     Run {
         plant: plant::fresh(),
-        received: nothing(),
-        gone: nothing(),
+        received: Amounts::default(),
+        gone: Amounts::default(),
         accepted: 0,
-    }
-}
-
-fn nothing() -> Amounts {
-    Amounts {
-        cod: 0,
-        tkn: 0,
-        oxygen: 0,
-        nitrate: 0,
     }
 }
 
@@ -57,28 +63,19 @@ fn next(x: u64) -> u64 {
 
 // One call, whose kind goes by i and whose numbers by x.
 fn one_call(run: Run, x: u64, i: u64) -> Run {
-    let p = run.plant;
-    called(run, request(p, x, i % 8))
+    called(run, request(run.plant, x, i % 8))
 }
 
 // A call behind its preview, and what it adds to the sums; the preview adds nothing.
 pub fn called(run: Run, r: Request) -> Run {
-    let p = run.plant;
-    let seen = requests::preview(p, r);
-    let kept = seen.plant;
-    let o = requests::answer_request(kept, r);
-    let a = o.answer;
-    let v = o.vector;
-    let after = o.plant;
-    let call = r.call;
-    let sludge = r.sludge;
-    let came = plus(run.received, received(a, sludge));
-    let went = plus(plus(run.gone, lost(call, a)), released(a, v));
+    let seen = requests::preview(run.plant, r);
+    let o = requests::answer_request(seen.plant, r);
+    let (came, went) = moved(r, o);
     Run {
-        plant: after,
-        received: came,
-        gone: went,
-        accepted: std::num::wrapping_add_u64(run.accepted, accepted(a)),
+        plant: o.plant,
+        received: run.received + came,
+        gone: run.gone + went,
+        accepted: run.accepted.wrapping_add(accepted(o.answer)),
     }
 }
 
@@ -89,83 +86,57 @@ fn accepted(a: Answer) -> u64 {
     }
 }
 
-// What an accepted receive was handed.
-fn received(a: Answer, v: [u64; 13]) -> Amounts {
-    match a {
-        Answer::Received => totals_of(v),
-        _ => nothing(),
+// What an accepted receive was handed, and what was released, burnt, reduced, vented or stripped.
+fn moved(r: Request, o: Outcome) -> (Amounts, Amounts) {
+    let none = Amounts::default();
+    match (r.call, o.answer) {
+        (_, Answer::Received) => (totals_of(r.sludge), none),
+        (_, Answer::Released) => (none, totals_of(o.vector)),
+        (
+            _,
+            Answer::Fed {
+                burnt,
+                oxygen,
+                nitrate,
+                warn: _,
+            },
+        ) => {
+            let fed = Amounts {
+                cod: burnt.0,
+                oxygen: oxygen.0,
+                nitrate: nitrate.0,
+                ..none
+            };
+            (none, fed)
+        }
+        (Call::Settle(gas), Answer::Settled) => (none, cod(gas.0)),
+        (_, Answer::Returned { stripped }) => (none, cod(stripped.0)),
+        _ => (none, none),
     }
 }
 
-// What an accepted release handed out.
-fn released(a: Answer, v: [u64; 13]) -> Amounts {
-    match a {
-        Answer::Released => totals_of(v),
-        _ => nothing(),
-    }
-}
-
-// What was burnt, reduced, vented or stripped.
-fn lost(call: Call, a: Answer) -> Amounts {
-    match a {
-        Answer::Fed {
-            burnt,
-            oxygen,
-            nitrate,
-            warn: _,
-        } => Amounts {
-            cod: burnt.0,
-            tkn: 0,
-            oxygen: oxygen.0,
-            nitrate: nitrate.0,
-        },
-        Answer::Settled => cod(gas(call)),
-        Answer::Returned { stripped } => cod(stripped.0),
-        _ => nothing(),
-    }
-}
-
-fn gas(call: Call) -> u64 {
-    match call {
-        Call::Settle(g) => g.0,
-        _ => 0,
-    }
-}
-
+// COD alone.
 fn cod(n: u64) -> Amounts {
     Amounts {
         cod: n,
-        tkn: 0,
-        oxygen: 0,
-        nitrate: 0,
+        ..Amounts::default()
     }
 }
 
 // The totals of an ASM1 vector.
 fn totals_of(v: [u64; 13]) -> Amounts {
-    if vectors::asm1_within(v) {
-        let c = vectors::asm1_cod(v);
-        let n = vectors::asm1_tkn(vectors::HOUSE, v);
+    if vectors::is_within(v) {
         return Amounts {
-            cod: c.0,
-            tkn: n.0,
-            oxygen: v[7],
-            nitrate: v[8],
+            cod: vectors::cod(v).0,
+            tkn: vectors::tkn(vectors::HOUSE, v).0,
+            oxygen: v[asm1::SO],
+            nitrate: v[asm1::SNO],
         };
     }
-    nothing()
+    Amounts::default()
 }
 
-fn plus(a: Amounts, b: Amounts) -> Amounts {
-    Amounts {
-        cod: std::num::wrapping_add_u64(a.cod, b.cod),
-        tkn: std::num::wrapping_add_u64(a.tkn, b.tkn),
-        oxygen: std::num::wrapping_add_u64(a.oxygen, b.oxygen),
-        nitrate: std::num::wrapping_add_u64(a.nitrate, b.nitrate),
-    }
-}
-
-// Receives more often than the other calls; some have a k of 0, and some proposals are open.
+// Receives more often than the other calls; some have a k of 0, and some proposals are open. The kind is a place in a row of eight calls.
 fn request(p: Plant, x: u64, kind: u64) -> Request {
     let k = x % 1200;
     match kind {
@@ -175,16 +146,15 @@ fn request(p: Plant, x: u64, kind: u64) -> Request {
         6 => bare(Call::Release(k)),
         7 => bare(Call::Recycle(k)),
         _ => Request {
-            call: Call::Receive,
             sludge: columns(x),
-            digester: [0; 26],
+            ..bare(Call::Receive)
         },
     }
 }
 
 pub fn bare(call: Call) -> Request {
     Request {
-        call: call,
+        call,
         sludge: [0; 13],
         digester: [0; 26],
     }
@@ -193,16 +163,15 @@ pub fn bare(call: Call) -> Request {
 // A proposal: half of ssu becomes methane, part of which is vented, and sic is another. Every fourth one is a milligram short.
 fn settling(p: Plant, x: u64) -> Request {
     let mut d = p.digester;
-    let half = d[1] / 2;
+    let half = d[digester::SSU] / 2;
     let vent = half / 3;
-    d[1] = d[1] - half;
-    d[9] = std::num::wrapping_add_u64(d[9], half - vent);
-    d[23] = x % 1000;
+    d[digester::SSU] -= half;
+    d[digester::SCH4] = d[digester::SCH4].wrapping_add(half - vent);
+    d[digester::SIC] = x % 1000;
     let more = if x % 4 == 0 { 1 } else { 0 };
     Request {
-        call: Call::Settle(vectors::Milligrams(std::num::wrapping_add_u64(vent, more))),
-        sludge: [0; 13],
         digester: d,
+        ..bare(Call::Settle(Milligrams(vent.wrapping_add(more))))
     }
 }
 
@@ -217,17 +186,24 @@ fn columns(x: u64) -> [u64; 13] {
 pub fn report(run: Run) {
     test_show::number(b"accepted ", run.accepted);
     test_show::text(b"\n");
-    let p = run.plant;
-    let h = holding::held(p);
-    line(b"COD", run.received.cod, h.cod.0, run.gone.cod);
-    line(b"TKN", run.received.tkn, h.tkn.0, run.gone.tkn);
-    line(b"oxygen", run.received.oxygen, h.oxygen.0, run.gone.oxygen);
-    line(
-        b"nitrate",
-        run.received.nitrate,
-        h.nitrate.0,
-        run.gone.nitrate,
-    );
+    let (came, held, gone) = (run.received, held(run.plant), run.gone);
+    line(b"COD", came.cod, held.cod, gone.cod);
+    line(b"TKN", came.tkn, held.tkn, gone.tkn);
+    line(b"oxygen", came.oxygen, held.oxygen, gone.oxygen);
+    line(b"nitrate", came.nitrate, held.nitrate, gone.nitrate);
+}
+
+// What is in the tanks, and nothing where it is refused.
+fn held(p: Plant) -> Amounts {
+    match holding::held(p) {
+        Ok(h) => Amounts {
+            cod: h.cod.0,
+            tkn: h.tkn.0,
+            oxygen: h.oxygen.0,
+            nitrate: h.nitrate.0,
+        },
+        Err(_) => Amounts::default(),
+    }
 }
 
 // One balance: received, in the tanks, gone, and whether it closes.
@@ -236,7 +212,7 @@ fn line(name: &[u8], received: u64, held: u64, gone: u64) {
     test_show::number(b" received ", received);
     test_show::number(b" held ", held);
     test_show::number(b" gone ", gone);
-    if std::num::wrapping_add_u64(held, gone) == received {
+    if held.wrapping_add(gone) == received {
         test_show::text(b" closes\n");
     } else {
         test_show::text(b" OPEN\n");

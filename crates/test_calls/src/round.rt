@@ -6,10 +6,8 @@ use plant::{Call, Request};
 // One receive, four rounds of feed, return, recycle and release, and the four balances.
 pub fn rounds() {
     let mut run = called(start(), works());
-    let mut i: u64 = 0;
-    while i < 4 {
+    for _ in 0..4 {
         run = round(run);
-        i += 1;
     }
     report(run);
 }
@@ -17,11 +15,10 @@ pub fn rounds() {
 // Sludge with every column in it, oxygen and nitrate among them.
 fn works() -> Request {
     Request {
-        call: Call::Receive,
         sludge: [
             101, 40003, 2007, 30001, 5003, 307, 1009, 503, 7000001, 900007, 500009, 80021, 77,
         ],
-        digester: [0; 26],
+        ..bare(Call::Receive)
     }
 }
 
@@ -30,9 +27,8 @@ fn round(run: Run) -> Run {
     let fed = called(run, bare(Call::Feed(900)));
     let returned = called(fed, bare(Call::Return(950)));
     let recycled = called(returned, bare(Call::Recycle(800)));
-    let p = recycled.plant;
     test_show::text(b"round: ");
-    tanks(p);
+    tanks(recycled.plant);
     test_show::text(b"\n");
     called(recycled, bare(Call::Release(100)))
 }

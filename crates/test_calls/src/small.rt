@@ -1,6 +1,10 @@
 // Small examples of the calls, one to a row of a table.
-use crate::write::{answer, call_name, same};
+use crate::write::{answer, call_name};
+use Column::{Digester, Reject, Sludge};
+use plant::Call::{Feed, Receive, Recycle, Release, Return, Settle};
 use plant::{Call, Outcome, Plant, Request};
+use test_show::places::{asm1, digester};
+use vectors::Milligrams;
 
 // A ceiling, numbers above one, and the largest number.
 const COD: u64 = 1000000000000;
@@ -11,196 +15,370 @@ const TICKS_OVER: u64 = 10000000000000001;
 
 const MOST: u64 = 18446744073709551615;
 
-// A row: twice a tank (1 sludge, 2 digester, 3 reject), a place in it and its column's value; the call (1 receive, 2 feed, 3 settle,
-// 4 return, 5 release, 6 recycle) and its number; twice a place in the vector that is handed to it and the value there.
-const ROWS: [[u64; 12]; 85] = [
+// A column of a tank by its place, and its value.
+#[derive(Clone, Copy)]
+enum Column {
+    Sludge(usize, u64),
+    Digester(usize, u64),
+    Reject(usize, u64),
+}
+
+// A row: the columns of the record that are not zero, the call, and those of the vector that is handed to it.
+type Row = (&'static [Column], Call, &'static [(usize, u64)]);
+
+static ROWS: [Row; 85] = [
     // The small examples of document 01, with the nearest accepted call beside each.
-    [1, 1, COD_OVER, 0, 0, 0, 2, 1000, 0, 0, 1, 0],
-    [0, 0, 0, 0, 0, 0, 2, 0, 0, 0, 1, 0],
-    [0, 0, 0, 0, 0, 0, 1, 0, 1, COD_OVER, 0, 0],
-    [0, 0, 0, 0, 0, 0, 1, 0, 1, COD, 0, 0],
-    [1, 0, 1, 1, 9, 279, 2, 1000, 0, 0, 1, 0],
-    [1, 0, 1, 1, 9, 280, 2, 1000, 0, 0, 1, 0],
-    [2, 10, 1, 2, 22, 599, 4, 1000, 0, 0, 1, 0],
-    [2, 10, 1, 2, 22, 600, 4, 1000, 0, 0, 1, 0],
-    [2, 1, 5, 0, 0, 0, 3, 0, 1, 4, 0, 0],
-    [2, 1, 5, 0, 0, 0, 3, 1, 1, 4, 0, 0],
-    [2, 22, 5, 0, 0, 0, 3, 0, 22, 4, 0, 0],
-    [2, 24, 2, 0, 0, 0, 3, 0, 0, 0, 1, 0],
-    [2, 24, 2, 0, 0, 0, 3, 0, 24, 2, 23, 7],
-    [1, 1, COD, 0, 0, 0, 1, 0, 1, 1, 0, 0],
+    (&[Sludge(asm1::SS, COD_OVER)], Feed(1000), &[]),
+    (&[], Feed(0), &[]),
+    (&[], Receive, &[(asm1::SS, COD_OVER)]),
+    (&[], Receive, &[(asm1::SS, COD)]),
+    (
+        &[Sludge(asm1::SI, 1), Sludge(asm1::SNH, 279)],
+        Feed(1000),
+        &[],
+    ),
+    (
+        &[Sludge(asm1::SI, 1), Sludge(asm1::SNH, 280)],
+        Feed(1000),
+        &[],
+    ),
+    (
+        &[Digester(digester::XI, 1), Digester(digester::SIN, 599)],
+        Return(1000),
+        &[],
+    ),
+    (
+        &[Digester(digester::XI, 1), Digester(digester::SIN, 600)],
+        Return(1000),
+        &[],
+    ),
+    (
+        &[Digester(digester::SSU, 5)],
+        Settle(Milligrams(0)),
+        &[(digester::SSU, 4)],
+    ),
+    (
+        &[Digester(digester::SSU, 5)],
+        Settle(Milligrams(1)),
+        &[(digester::SSU, 4)],
+    ),
+    (
+        &[Digester(digester::SIN, 5)],
+        Settle(Milligrams(0)),
+        &[(digester::SIN, 4)],
+    ),
+    (&[Digester(digester::CO, 2)], Settle(Milligrams(0)), &[]),
+    (
+        &[Digester(digester::CO, 2)],
+        Settle(Milligrams(0)),
+        &[(digester::CO, 2), (digester::SIC, 7)],
+    ),
+    (&[Sludge(asm1::SS, COD)], Receive, &[(asm1::SS, 1)]),
     // Where two refusals apply, the lower number is given.
-    [3, 12, COD_OVER, 0, 0, 0, 2, 0, 0, 0, 1, 0],
-    [1, 9, TICKS_OVER, 0, 0, 0, 1, 0, 1, COD_OVER, 0, 0],
-    [2, 1, 5, 3, 11, TICKS_OVER, 3, 0, 0, 0, 1, 0],
-    [1, 0, 1, 0, 0, 0, 2, 1001, 0, 0, 1, 0],
-    [2, 10, 1, 0, 0, 0, 4, 0, 0, 0, 1, 0],
-    [1, 1, COD, 1, 3, 1, 1, 0, 1, 1, 3, COD_OVER],
-    [0, 0, 0, 0, 0, 0, 3, 0, 9, COD_OVER, 0, 0],
-    [1, 0, 1, 2, 0, COD, 2, 1000, 0, 0, 1, 0],
-    [2, 10, 1, 3, 2, COD, 4, 1000, 0, 0, 1, 0],
-    [2, 1, 5, 2, 22, 5, 3, 0, 0, 0, 1, 0],
-    [2, 22, 5, 2, 24, 2, 3, 0, 0, 0, 1, 0],
-    [2, 25, 2, 0, 0, 0, 3, 0, 25, 3, 0, 0],
-    [1, 1, 2, 2, 1, COD, 2, 1000, 0, 0, 1, 0],
-    [2, 1, 2, 3, 1, COD, 4, 1000, 0, 0, 1, 0],
+    (&[Reject(asm1::SALK, COD_OVER)], Feed(0), &[]),
+    (
+        &[Sludge(asm1::SNH, TICKS_OVER)],
+        Receive,
+        &[(asm1::SS, COD_OVER)],
+    ),
+    (
+        &[Digester(digester::SSU, 5), Reject(asm1::XND, TICKS_OVER)],
+        Settle(Milligrams(0)),
+        &[],
+    ),
+    (&[Sludge(asm1::SI, 1)], Feed(1001), &[]),
+    (&[Digester(digester::XI, 1)], Return(0), &[]),
+    (
+        &[Sludge(asm1::SS, COD), Sludge(asm1::XS, 1)],
+        Receive,
+        &[(asm1::SS, 1), (asm1::XS, COD_OVER)],
+    ),
+    (&[], Settle(Milligrams(0)), &[(digester::SCH4, COD_OVER)]),
+    (
+        &[Sludge(asm1::SI, 1), Digester(digester::SI, COD)],
+        Feed(1000),
+        &[],
+    ),
+    (
+        &[Digester(digester::XI, 1), Reject(asm1::XI, COD)],
+        Return(1000),
+        &[],
+    ),
+    (
+        &[Digester(digester::SSU, 5), Digester(digester::SIN, 5)],
+        Settle(Milligrams(0)),
+        &[],
+    ),
+    (
+        &[Digester(digester::SIN, 5), Digester(digester::CO, 2)],
+        Settle(Milligrams(0)),
+        &[],
+    ),
+    (
+        &[Digester(digester::CN, 2)],
+        Settle(Milligrams(0)),
+        &[(digester::CN, 3)],
+    ),
+    (
+        &[Sludge(asm1::SS, 2), Digester(digester::SSU, COD)],
+        Feed(1000),
+        &[],
+    ),
+    (
+        &[Digester(digester::SSU, 2), Reject(asm1::SS, COD)],
+        Return(1000),
+        &[],
+    ),
     // K at its edges.
-    [1, 1, 2000, 1, 7, 3, 2, 0, 0, 0, 1, 0],
-    [1, 1, 2000, 1, 7, 3, 2, 1, 0, 0, 1, 0],
-    [1, 1, 2000, 1, 7, 3, 2, 999, 0, 0, 1, 0],
-    [1, 1, 2000, 1, 7, 3, 2, 1000, 0, 0, 1, 0],
-    [1, 1, 2000, 1, 7, 3, 2, 1001, 0, 0, 1, 0],
-    [1, 1, 2000, 1, 7, 3, 2, MOST, 0, 0, 1, 0],
-    [2, 9, 1500, 2, 22, 999, 4, 0, 0, 0, 1, 0],
-    [2, 9, 1500, 2, 22, 999, 4, 1, 0, 0, 1, 0],
-    [2, 9, 1500, 2, 22, 999, 4, 999, 0, 0, 1, 0],
-    [2, 9, 1500, 2, 22, 999, 4, 1000, 0, 0, 1, 0],
-    [2, 9, 1500, 2, 22, 999, 4, 1001, 0, 0, 1, 0],
-    [2, 9, 1500, 2, 22, 999, 4, MOST, 0, 0, 1, 0],
-    [3, 3, 2000, 3, 9, 999, 5, 0, 0, 0, 1, 0],
-    [3, 3, 2000, 3, 9, 999, 5, 1, 0, 0, 1, 0],
-    [3, 3, 2000, 3, 9, 999, 5, 999, 0, 0, 1, 0],
-    [3, 3, 2000, 3, 9, 999, 5, 1000, 0, 0, 1, 0],
-    [3, 3, 2000, 3, 9, 999, 5, 1001, 0, 0, 1, 0],
-    [3, 3, 2000, 3, 9, 999, 5, MOST, 0, 0, 1, 0],
+    (&[Sludge(asm1::SS, 2000), Sludge(asm1::SO, 3)], Feed(0), &[]),
+    (&[Sludge(asm1::SS, 2000), Sludge(asm1::SO, 3)], Feed(1), &[]),
+    (
+        &[Sludge(asm1::SS, 2000), Sludge(asm1::SO, 3)],
+        Feed(999),
+        &[],
+    ),
+    (
+        &[Sludge(asm1::SS, 2000), Sludge(asm1::SO, 3)],
+        Feed(1000),
+        &[],
+    ),
+    (
+        &[Sludge(asm1::SS, 2000), Sludge(asm1::SO, 3)],
+        Feed(1001),
+        &[],
+    ),
+    (
+        &[Sludge(asm1::SS, 2000), Sludge(asm1::SO, 3)],
+        Feed(MOST),
+        &[],
+    ),
+    (
+        &[Digester(digester::SCH4, 1500), Digester(digester::SIN, 999)],
+        Return(0),
+        &[],
+    ),
+    (
+        &[Digester(digester::SCH4, 1500), Digester(digester::SIN, 999)],
+        Return(1),
+        &[],
+    ),
+    (
+        &[Digester(digester::SCH4, 1500), Digester(digester::SIN, 999)],
+        Return(999),
+        &[],
+    ),
+    (
+        &[Digester(digester::SCH4, 1500), Digester(digester::SIN, 999)],
+        Return(1000),
+        &[],
+    ),
+    (
+        &[Digester(digester::SCH4, 1500), Digester(digester::SIN, 999)],
+        Return(1001),
+        &[],
+    ),
+    (
+        &[Digester(digester::SCH4, 1500), Digester(digester::SIN, 999)],
+        Return(MOST),
+        &[],
+    ),
+    (
+        &[Reject(asm1::XS, 2000), Reject(asm1::SNH, 999)],
+        Release(0),
+        &[],
+    ),
+    (
+        &[Reject(asm1::XS, 2000), Reject(asm1::SNH, 999)],
+        Release(1),
+        &[],
+    ),
+    (
+        &[Reject(asm1::XS, 2000), Reject(asm1::SNH, 999)],
+        Release(999),
+        &[],
+    ),
+    (
+        &[Reject(asm1::XS, 2000), Reject(asm1::SNH, 999)],
+        Release(1000),
+        &[],
+    ),
+    (
+        &[Reject(asm1::XS, 2000), Reject(asm1::SNH, 999)],
+        Release(1001),
+        &[],
+    ),
+    (
+        &[Reject(asm1::XS, 2000), Reject(asm1::SNH, 999)],
+        Release(MOST),
+        &[],
+    ),
     // A gas near 2^64.
-    [2, 1, 5, 0, 0, 0, 3, MOST, 1, 5, 0, 0],
-    [0, 0, 0, 0, 0, 0, 3, MOST, 0, 0, 1, 0],
-    [0, 0, 0, 0, 0, 0, 3, MOST - 4, 1, 5, 0, 0],
-    [2, 1, 5, 2, 7, 7, 3, 12, 0, 0, 1, 0],
+    (
+        &[Digester(digester::SSU, 5)],
+        Settle(Milligrams(MOST)),
+        &[(digester::SSU, 5)],
+    ),
+    (&[], Settle(Milligrams(MOST)), &[]),
+    (&[], Settle(Milligrams(MOST - 4)), &[(digester::SSU, 5)]),
+    (
+        &[Digester(digester::SSU, 5), Digester(digester::SAC, 7)],
+        Settle(Milligrams(12)),
+        &[],
+    ),
     // A record above its ceiling in the sludge tank, in the digester, in the reject tank.
-    [1, 6, COD_OVER, 0, 0, 0, 1, 0, 0, 0, 1, 0],
-    [1, 6, COD_OVER, 0, 0, 0, 2, 1, 0, 0, 1, 0],
-    [1, 6, COD_OVER, 0, 0, 0, 3, 0, 0, 0, 1, 0],
-    [1, 6, COD_OVER, 0, 0, 0, 4, 1, 0, 0, 1, 0],
-    [1, 6, COD_OVER, 0, 0, 0, 5, 1, 0, 0, 1, 0],
-    [2, 25, TICKS_OVER, 0, 0, 0, 1, 0, 0, 0, 1, 0],
-    [2, 25, TICKS_OVER, 0, 0, 0, 2, 1, 0, 0, 1, 0],
-    [2, 25, TICKS_OVER, 0, 0, 0, 3, 0, 0, 0, 1, 0],
-    [2, 25, TICKS_OVER, 0, 0, 0, 4, 1, 0, 0, 1, 0],
-    [2, 25, TICKS_OVER, 0, 0, 0, 5, 1, 0, 0, 1, 0],
-    [3, 0, MOST, 0, 0, 0, 1, 0, 0, 0, 1, 0],
-    [3, 0, MOST, 0, 0, 0, 2, 1, 0, 0, 1, 0],
-    [3, 0, MOST, 0, 0, 0, 3, 0, 0, 0, 1, 0],
-    [3, 0, MOST, 0, 0, 0, 4, 1, 0, 0, 1, 0],
-    [3, 0, MOST, 0, 0, 0, 5, 1, 0, 0, 1, 0],
+    (&[Sludge(asm1::XP, COD_OVER)], Receive, &[]),
+    (&[Sludge(asm1::XP, COD_OVER)], Feed(1), &[]),
+    (&[Sludge(asm1::XP, COD_OVER)], Settle(Milligrams(0)), &[]),
+    (&[Sludge(asm1::XP, COD_OVER)], Return(1), &[]),
+    (&[Sludge(asm1::XP, COD_OVER)], Release(1), &[]),
+    (&[Digester(digester::CN, TICKS_OVER)], Receive, &[]),
+    (&[Digester(digester::CN, TICKS_OVER)], Feed(1), &[]),
+    (
+        &[Digester(digester::CN, TICKS_OVER)],
+        Settle(Milligrams(0)),
+        &[],
+    ),
+    (&[Digester(digester::CN, TICKS_OVER)], Return(1), &[]),
+    (&[Digester(digester::CN, TICKS_OVER)], Release(1), &[]),
+    (&[Reject(asm1::SI, MOST)], Receive, &[]),
+    (&[Reject(asm1::SI, MOST)], Feed(1), &[]),
+    (&[Reject(asm1::SI, MOST)], Settle(Milligrams(0)), &[]),
+    (&[Reject(asm1::SI, MOST)], Return(1), &[]),
+    (&[Reject(asm1::SI, MOST)], Release(1), &[]),
     // Recycles. K at its edges.
-    [3, 3, 2000, 3, 9, 999, 6, 0, 0, 0, 1, 0],
-    [3, 3, 2000, 3, 9, 999, 6, 1, 0, 0, 1, 0],
-    [3, 3, 2000, 3, 9, 999, 6, 999, 0, 0, 1, 0],
-    [3, 3, 2000, 3, 9, 999, 6, 1000, 0, 0, 1, 0],
-    [3, 3, 2000, 3, 9, 999, 6, 1001, 0, 0, 1, 0],
-    [3, 3, 2000, 3, 9, 999, 6, MOST, 0, 0, 1, 0],
+    (
+        &[Reject(asm1::XS, 2000), Reject(asm1::SNH, 999)],
+        Recycle(0),
+        &[],
+    ),
+    (
+        &[Reject(asm1::XS, 2000), Reject(asm1::SNH, 999)],
+        Recycle(1),
+        &[],
+    ),
+    (
+        &[Reject(asm1::XS, 2000), Reject(asm1::SNH, 999)],
+        Recycle(999),
+        &[],
+    ),
+    (
+        &[Reject(asm1::XS, 2000), Reject(asm1::SNH, 999)],
+        Recycle(1000),
+        &[],
+    ),
+    (
+        &[Reject(asm1::XS, 2000), Reject(asm1::SNH, 999)],
+        Recycle(1001),
+        &[],
+    ),
+    (
+        &[Reject(asm1::XS, 2000), Reject(asm1::SNH, 999)],
+        Recycle(MOST),
+        &[],
+    ),
     // Onto what is in the sludge tank, up to its ceiling and past it.
-    [1, 3, 5, 3, 3, 2001, 6, 500, 0, 0, 1, 0],
-    [1, 1, COD - 1, 3, 1, 1, 6, 1000, 0, 0, 1, 0],
-    [1, 1, COD, 3, 1, 1, 6, 1000, 0, 0, 1, 0],
-    [1, 1, COD, 3, 1, 999, 6, 1, 0, 0, 1, 0],
-    [1, 1, COD, 3, 1, 1000, 6, 1, 0, 0, 1, 0],
-    [1, 11, TICKS_OVER - 1, 3, 11, 2, 6, 500, 0, 0, 1, 0],
-    [1, 12, COD, 3, 12, COD, 6, 1000, 0, 0, 1, 0],
+    (
+        &[Sludge(asm1::XS, 5), Reject(asm1::XS, 2001)],
+        Recycle(500),
+        &[],
+    ),
+    (
+        &[Sludge(asm1::SS, COD - 1), Reject(asm1::SS, 1)],
+        Recycle(1000),
+        &[],
+    ),
+    (
+        &[Sludge(asm1::SS, COD), Reject(asm1::SS, 1)],
+        Recycle(1000),
+        &[],
+    ),
+    (
+        &[Sludge(asm1::SS, COD), Reject(asm1::SS, 999)],
+        Recycle(1),
+        &[],
+    ),
+    (
+        &[Sludge(asm1::SS, COD), Reject(asm1::SS, 1000)],
+        Recycle(1),
+        &[],
+    ),
+    (
+        &[Sludge(asm1::XND, TICKS_OVER - 1), Reject(asm1::XND, 2)],
+        Recycle(500),
+        &[],
+    ),
+    (
+        &[Sludge(asm1::SALK, COD), Reject(asm1::SALK, COD)],
+        Recycle(1000),
+        &[],
+    ),
     // Where two refusals apply.
-    [3, 12, COD_OVER, 0, 0, 0, 6, 0, 0, 0, 1, 0],
-    [1, 1, COD_OVER, 3, 1, 1, 6, 1000, 0, 0, 1, 0],
-    [1, 1, COD, 3, 1, COD, 6, 1001, 0, 0, 1, 0],
-    [1, 1, COD, 3, 1, COD, 6, MOST, 0, 0, 1, 0],
+    (&[Reject(asm1::SALK, COD_OVER)], Recycle(0), &[]),
+    (
+        &[Sludge(asm1::SS, COD_OVER), Reject(asm1::SS, 1)],
+        Recycle(1000),
+        &[],
+    ),
+    (
+        &[Sludge(asm1::SS, COD), Reject(asm1::SS, COD)],
+        Recycle(1001),
+        &[],
+    ),
+    (
+        &[Sludge(asm1::SS, COD), Reject(asm1::SS, COD)],
+        Recycle(MOST),
+        &[],
+    ),
     // A record above its ceiling.
-    [1, 6, COD_OVER, 0, 0, 0, 6, 1, 0, 0, 1, 0],
-    [2, 25, TICKS_OVER, 0, 0, 0, 6, 1, 0, 0, 1, 0],
-    [3, 0, MOST, 0, 0, 0, 6, 1, 0, 0, 1, 0],
+    (&[Sludge(asm1::XP, COD_OVER)], Recycle(1), &[]),
+    (&[Digester(digester::CN, TICKS_OVER)], Recycle(1), &[]),
+    (&[Reject(asm1::SI, MOST)], Recycle(1), &[]),
 ];
 
 // Makes each row's record, previews the call and makes it, and writes both answers and whether the record is the one handed in.
 pub fn examples() {
-    let mut i: usize = 0;
-    while i < 85 {
-        example(row(i));
-        i += 1;
+    for row in &ROWS {
+        example(*row);
     }
 }
 
-fn row(i: usize) -> [u64; 12] {
-    let rows = ROWS;
-    if i < 85 {
-        return rows[i];
+fn example(row: Row) {
+    let (columns, call, vector) = row;
+    let mut p = plant::fresh();
+    for column in columns {
+        set(&mut p, *column);
     }
-    [0; 12]
-}
-
-fn example(row: [u64; 12]) {
-    let empty = plant::fresh();
-    let one = with_column(empty, row[0], row[1], row[2]);
-    let two = with_column(one, row[3], row[4], row[5]);
-    let r = request(row);
+    let r = request(call, vector);
     test_show::text(b"preview ");
-    shown(two, r, requests::preview(two, r));
-    shown(two, r, requests::answer_request(two, r));
+    shown(p, r, requests::preview(p, r));
+    shown(p, r, requests::answer_request(p, r));
+}
+
+// Sets a column of a record.
+fn set(p: &mut Plant, column: Column) {
+    match column {
+        Sludge(i, x) => p.sludge = test_show::with(p.sludge, &[(i, x)]),
+        Digester(i, x) => p.digester = test_show::with(p.digester, &[(i, x)]),
+        Reject(i, x) => p.reject = test_show::with(p.reject, &[(i, x)]),
+    }
 }
 
 // Writes a call with its answer, and whether the record is the one handed in.
 fn shown(before: Plant, r: Request, o: Outcome) {
-    let call = r.call;
-    call_name(call);
+    call_name(r.call);
     answer(o);
-    let after = o.plant;
-    if same(before, after) {
+    if o.plant == before {
         test_show::text(b", kept\n");
     } else {
         test_show::text(b", moved\n");
     }
 }
 
-// The request of a row.
-fn request(row: [u64; 12]) -> Request {
-    let mut sludge: [u64; 13] = [0; 13];
-    put(&mut sludge, row[8], row[9]);
-    put(&mut sludge, row[10], row[11]);
-    let mut digester: [u64; 26] = [0; 26];
-    put(&mut digester, row[8], row[9]);
-    put(&mut digester, row[10], row[11]);
+// The request of a row; a call takes one of its two vectors, or none.
+fn request(call: Call, vector: &[(usize, u64)]) -> Request {
     Request {
-        call: call_of(row[6], row[7]),
-        sludge: sludge,
-        digester: digester,
-    }
-}
-
-fn call_of(c: u64, n: u64) -> Call {
-    match c {
-        1 => Call::Receive,
-        2 => Call::Feed(n),
-        3 => Call::Settle(vectors::Milligrams(n)),
-        4 => Call::Return(n),
-        5 => Call::Release(n),
-        _ => Call::Recycle(n),
-    }
-}
-
-// The record with a column of a tank set.
-fn with_column(p: Plant, tank: u64, place: u64, value: u64) -> Plant {
-    let mut s = p.sludge;
-    let mut d = p.digester;
-    let mut j = p.reject;
-    if tank == 1 {
-        put(&mut s, place, value);
-    }
-    if tank == 2 {
-        put(&mut d, place, value);
-    }
-    if tank == 3 {
-        put(&mut j, place, value);
-    }
-    Plant {
-        sludge: s,
-        digester: d,
-        reject: j,
-    }
-}
-
-// Sets a column, where there is one at the place.
-fn put(v: &mut [u64], place: u64, value: u64) {
-    let i = place as usize;
-    if i < v.len() {
-        v[i] = value;
+        call,
+        sludge: test_show::with([0; 13], vector),
+        digester: test_show::with([0; 26], vector),
     }
 }

@@ -1,7 +1,7 @@
 // Writes calls and answers to standard output.
 use plant::{Answer, Call, Outcome, Plant};
 
-// A call's word and number.
+// A call's word and number. The test of composing has calls of its own: it writes a receive without a number, and test_show knows no calls.
 pub fn call_name(c: Call) {
     match c {
         Call::Receive => test_show::number(b"receive ", 0),
@@ -16,10 +16,8 @@ pub fn call_name(c: Call) {
 
 // The answer, with the columns of a released vector that are not zero.
 pub fn answer(o: Outcome) {
-    let a = o.answer;
-    let after = o.plant;
-    match a {
-        Answer::Refused(n) => test_show::number(b"no ", n),
+    match o.answer {
+        Answer::Refused(r) => test_show::number(b"no ", r.number()),
         Answer::Received => test_show::text(b"ok receive"),
         Answer::Fed {
             burnt,
@@ -30,10 +28,9 @@ pub fn answer(o: Outcome) {
         Answer::Settled => test_show::text(b"ok settle"),
         Answer::Returned { stripped } => test_show::number(b"ok return stripped ", stripped.0),
         Answer::Released => test_show::text(b"ok release"),
-        Answer::Recycled => recycled(after),
+        Answer::Recycled => recycled(o.plant),
     }
-    let v = o.vector;
-    test_show::asm1(v);
+    test_show::asm1(o.vector);
 }
 
 // A recycle tells nothing; what the two tanks hold then is shown.
@@ -44,12 +41,10 @@ fn recycled(p: Plant) {
 
 // The columns of the sludge and reject tanks that are not zero.
 pub fn tanks(p: Plant) {
-    let sludge = p.sludge;
-    let reject = p.reject;
     test_show::text(b"sludge ");
-    test_show::asm1(sludge);
+    test_show::asm1(p.sludge);
     test_show::text(b", reject ");
-    test_show::asm1(reject);
+    test_show::asm1(p.reject);
 }
 
 fn fed(burnt: u64, oxygen: u64, nitrate: u64, warn: u64) {
@@ -57,34 +52,4 @@ fn fed(burnt: u64, oxygen: u64, nitrate: u64, warn: u64) {
     test_show::number(b" oxygen ", oxygen);
     test_show::number(b" nitrate ", nitrate);
     test_show::number(b" warn ", warn);
-}
-
-// Whether two records are the same.
-pub fn same(a: Plant, b: Plant) -> bool {
-    let s = a.sludge;
-    let t = b.sludge;
-    let d = a.digester;
-    let e = b.digester;
-    let j = a.reject;
-    let k = b.reject;
-    if equal(&s, &t) {
-        if equal(&d, &e) {
-            return equal(&j, &k);
-        }
-    }
-    false
-}
-
-fn equal(a: &[u64], b: &[u64]) -> bool {
-    if a.len() != b.len() {
-        return false;
-    }
-    let mut i = 0;
-    while i < a.len() {
-        if a[i] != b[i] {
-            return false;
-        }
-        i += 1;
-    }
-    true
 }

@@ -4,32 +4,23 @@
 #![tactic(auto)]
 
 use plant::{Call, Request};
-use reading::{Form, Line};
+use reading::Asked;
+use test_show::places::digester::{CN, SCH4, SI, SPRO, XC};
 use vectors::Milligrams;
 
-// Buffers of no byte, of one, around 1,025, and longer.
+// The largest number.
+const MOST: u64 = 18446744073709551615;
+
+// Buffers of no byte, of one, around 1,025, and longer: the first bytes of a space, and a look behind them afterwards.
 fn main() {
     let mut space = [0u8; 1100];
-    lent(&mut space, 0);
-    lent(&mut space, 1);
-    lent(&mut space, 1024);
-    lent(&mut space, 1025);
-    lent(&mut space, 1026);
-    lent(&mut space, 1100);
-}
-
-// The first n bytes of a space are lent, and a look behind them afterwards.
-fn lent(space: &mut [u8], n: usize) {
-    test_show::fill(space);
-    first(space, n);
-    test_show::number(b"behind the buffer of ", n as u64);
-    test_show::behind(space, n);
-}
-
-// The first n bytes of a space are lent.
-fn first(space: &mut [u8], n: usize) {
-    if n <= space.len() {
-        all(&mut space[..n]);
+    for n in [0, 1, 1024, 1025, 1026, 1100] {
+        test_show::fill(&mut space);
+        if let Some(buf) = space.get_mut(..n) {
+            all(buf);
+        }
+        test_show::number(b"behind the buffer of ", n as u64);
+        test_show::behind(&space, n);
     }
 }
 
@@ -37,14 +28,10 @@ fn first(space: &mut [u8], n: usize) {
 fn all(buf: &mut [u8]) {
     with_vectors(buf, [0; 13], [0; 26]);
     with_vectors(buf, some_sludge(), some_digester());
-    with_vectors(
-        buf,
-        [18446744073709551615u64; 13],
-        [18446744073709551615u64; 26],
-    );
-    numbers(buf, 0);
-    numbers(buf, 1000);
-    numbers(buf, 18446744073709551615);
+    with_vectors(buf, [MOST; 13], [MOST; 26]);
+    for k in [0, 1000, MOST] {
+        numbers(buf, k);
+    }
     handed_back(buf);
 }
 
@@ -54,87 +41,80 @@ fn some_sludge() -> [u64; 13] {
 }
 
 fn some_digester() -> [u64; 26] {
-    [
-        1,
-        0,
-        0,
-        0,
-        0,
-        0,
-        60,
-        0,
-        0,
-        90,
-        0,
-        1000000000001,
-        0,
-        0,
-        0,
-        0,
-        0,
-        0,
-        0,
-        0,
-        0,
-        0,
-        0,
-        0,
-        0,
-        250,
-    ]
+    let columns = [
+        (SI, 1),
+        (SPRO, 60),
+        (SCH4, 90),
+        (XC, 1000000000001),
+        (CN, 250),
+    ];
+    test_show::with([0; 26], &columns)
 }
 
 // The two calls that take a vector.
-fn with_vectors(buf: &mut [u8], v: [u64; 13], d: [u64; 26]) {
-    both(buf, Call::Receive, v, d);
-    both(buf, Call::Settle(Milligrams(0)), v, d);
-    both(buf, Call::Settle(Milligrams(18446744073709551615)), v, d);
+fn with_vectors(buf: &mut [u8], sludge: [u64; 13], digester: [u64; 26]) {
+    for call in [
+        Call::Receive,
+        Call::Settle(Milligrams(0)),
+        Call::Settle(Milligrams(MOST)),
+    ] {
+        both(
+            buf,
+            Request {
+                call,
+                sludge,
+                digester,
+            },
+        );
+    }
 }
 
 // The four calls that take a number alone; the vectors beside them are not written.
 fn numbers(buf: &mut [u8], k: u64) {
-    let v = some_sludge();
-    let d = some_digester();
-    both(buf, Call::Feed(k), v, d);
-    both(buf, Call::Return(k), v, d);
-    both(buf, Call::Release(k), v, d);
-    both(buf, Call::Recycle(k), v, d);
+    for call in [
+        Call::Feed(k),
+        Call::Return(k),
+        Call::Release(k),
+        Call::Recycle(k),
+    ] {
+        both(buf, some_request(call));
+    }
+}
+
+fn some_request(call: Call) -> Request {
+    Request {
+        call,
+        sludge: some_sludge(),
+        digester: some_digester(),
+    }
 }
 
 // A call and its preview.
-fn both(buf: &mut [u8], call: Call, v: [u64; 13], d: [u64; 26]) {
-    written(buf, call, v, d, false);
-    written(buf, call, v, d, true);
+fn both(buf: &mut [u8], r: Request) {
+    for preview in [false, true] {
+        written(buf, r, preview);
+    }
 }
 
-fn written(buf: &mut [u8], call: Call, sludge: [u64; 13], digester: [u64; 26], preview: bool) {
+fn written(buf: &mut [u8], r: Request, preview: bool) {
     test_show::fill(buf);
-    let r = Request {
-        call,
-        sludge,
-        digester,
-    };
     let w = composing::write_line(buf, r, preview);
-    test_show::number(b"refusal ", w.refusal);
+    let length = w.unwrap_or(0);
+    test_show::number(b"refusal ", w.err().map_or(0, |r| r.number()));
     test_show::number(b" in ", buf.len() as u64);
-    test_show::number(b" bytes ", w.length as u64);
-    let part = writing::filled_part(buf, w.length);
+    test_show::number(b" bytes ", length as u64);
+    let part = writing::filled_part(buf, length);
     test_show::text(b" [");
     test_show::text(part);
     test_show::text(b"]");
     read_back(part);
-    test_show::behind(buf, w.length);
+    test_show::behind(buf, length);
 }
 
 // The part that the writer itself hands back, and a look behind it afterwards: no contract speaks of the bytes there.
 fn handed_back(buf: &mut [u8]) {
     test_show::fill(buf);
-    let r = Request {
-        call: Call::Receive,
-        sludge: some_sludge(),
-        digester: some_digester(),
-    };
-    let part = composing::filled_line(buf, r, true);
+    let part = composing::filled_line(buf, some_request(Call::Receive), true);
     test_show::text(b"handed back [");
     test_show::text(part);
     let k = part.len();
@@ -144,31 +124,26 @@ fn handed_back(buf: &mut [u8]) {
 
 // What a line without its newline is read as.
 fn read_back(part: &[u8]) {
-    if part.len() == 0 {
-        return;
+    if let Some((_, line)) = part.split_last() {
+        tell_form(reading::read_line(line));
     }
-    let line = writing::filled_part(part, part.len() - 1);
-    tell_form(reading::read_line(line));
 }
 
 // A call with its number and its vector, or no form.
-fn tell_form(l: Line) {
-    let form = l.form;
-    let sludge = l.sludge;
-    let digester = l.digester;
-    match form {
-        Form::Asked { call, preview } => {
-            if preview {
-                test_show::text(b" preview");
-            }
-            tell_call(call);
-            test_show::asm1(sludge);
-            test_show::digester(digester);
-        }
-        Form::NotAForm => test_show::text(b" NO FORM"),
+fn tell_form(asked: Option<Asked>) {
+    let Some(a) = asked else {
+        test_show::text(b" NO FORM");
+        return;
+    };
+    if a.preview {
+        test_show::text(b" preview");
     }
+    tell_call(a.request.call);
+    test_show::asm1(a.request.sludge);
+    test_show::digester(a.request.digester);
 }
 
+// A call's word and number, a receive's word alone.
 fn tell_call(call: Call) {
     match call {
         Call::Receive => test_show::text(b" receive"),

@@ -3,71 +3,108 @@
 // table for the definitions. Under the letter n stand four feeds more, on both sides of nitrate that COD just covers.
 #![tactic(auto)]
 
-fn main() {
-    feed(b'a', [0, 40000, 0, 0, 0, 0, 0, 5000, 100000000, 0, 0, 0, 0]);
-    feed(
+use Example::{Feed, Return};
+use interface::{Fed, Returned};
+use test_show::places::digester;
+use vectors::{Milligrams, Ticks};
+
+// A feed of the whole of a sludge vector, or a return of three of the digester's columns: xi, xc and sin.
+#[derive(Clone, Copy)]
+enum Example {
+    Feed([u64; 13]),
+    Return(u64, u64, u64),
+}
+
+// Each by its plant's letter.
+const PLANTS: [(u8, Example); 17] = [
+    (
+        b'a',
+        Feed([0, 40000, 0, 0, 0, 0, 0, 5000, 100000000, 0, 0, 0, 0]),
+    ),
+    (
         b'b',
-        [0, 10000, 0, 30000, 0, 0, 0, 5000, 100000000, 0, 0, 0, 0],
-    );
-    feed(b'c', [0, 100, 0, 0, 0, 0, 0, 0, 0, 0, 10000, 0, 0]);
-    feed(b'd', [0, 5, 0, 0, 0, 0, 0, 0, 0, 0, 10000, 0, 0]);
-    feed(b'e', [0, 0, 10, 0, 0, 0, 0, 0, 0, 0, 0, 0, 0]);
-    feed(b'f', [1, 0, 0, 0, 0, 0, 0, 0, 0, 280, 0, 0, 0]);
-    feed(b'f', [1, 0, 0, 0, 0, 0, 0, 0, 0, 279, 0, 0, 0]);
-    feed(b'g', [0, 0, 0, 5, 0, 0, 0, 7, 100, 0, 0, 0, 0]);
-    feed(b'h', [0, 0, 0, 0, 0, 1, 0, 0, 3497, 0, 0, 0, 0]);
-    feed(b'i', [0, 0, 0, 100, 0, 0, 0, 0, 0, 0, 0, 2810, 0]);
-    give_back(b'j', digester_of(8, 2, 6000));
-    give_back(b'k', digester_of(1, 0, 600));
-    give_back(b'k', digester_of(1, 0, 599));
-    feed(b'n', [0, 143, 0, 0, 0, 0, 0, 0, 499999, 0, 0, 0, 0]);
-    feed(b'n', [0, 143, 0, 0, 0, 0, 0, 0, 500000, 0, 0, 0, 0]);
-    feed(b'n', [0, 143, 0, 0, 0, 0, 0, 0, 500001, 0, 0, 0, 0]);
-    feed(b'n', [0, 150, 0, 0, 0, 0, 0, 7, 500001, 0, 0, 0, 0]);
-}
+        Feed([0, 10000, 0, 30000, 0, 0, 0, 5000, 100000000, 0, 0, 0, 0]),
+    ),
+    (b'c', Feed([0, 100, 0, 0, 0, 0, 0, 0, 0, 0, 10000, 0, 0])),
+    (b'd', Feed([0, 5, 0, 0, 0, 0, 0, 0, 0, 0, 10000, 0, 0])),
+    (b'e', Feed([0, 0, 10, 0, 0, 0, 0, 0, 0, 0, 0, 0, 0])),
+    (b'f', Feed([1, 0, 0, 0, 0, 0, 0, 0, 0, 280, 0, 0, 0])),
+    (b'f', Feed([1, 0, 0, 0, 0, 0, 0, 0, 0, 279, 0, 0, 0])),
+    (b'g', Feed([0, 0, 0, 5, 0, 0, 0, 7, 100, 0, 0, 0, 0])),
+    (b'h', Feed([0, 0, 0, 0, 0, 1, 0, 0, 3497, 0, 0, 0, 0])),
+    (b'i', Feed([0, 0, 0, 100, 0, 0, 0, 0, 0, 0, 0, 2810, 0])),
+    (b'j', Return(8, 2, 6000)),
+    (b'k', Return(1, 0, 600)),
+    (b'k', Return(1, 0, 599)),
+    (b'n', Feed([0, 143, 0, 0, 0, 0, 0, 0, 499999, 0, 0, 0, 0])),
+    (b'n', Feed([0, 143, 0, 0, 0, 0, 0, 0, 500000, 0, 0, 0, 0])),
+    (b'n', Feed([0, 143, 0, 0, 0, 0, 0, 0, 500001, 0, 0, 0, 0])),
+    (b'n', Feed([0, 150, 0, 0, 0, 0, 0, 7, 500001, 0, 0, 0, 0])),
+];
 
-// A digester vector with these three columns, and the others zero.
-fn digester_of(xi: u64, xc: u64, sin: u64) -> [u64; 26] {
-    let mut d = [0u64; 26];
-    d[10] = xi;
-    d[11] = xc;
-    d[22] = sin;
-    d
-}
-
-// One feed: the plant's letter, and the whole of a sludge vector fed.
-fn feed(letter: u8, v: [u64; 13]) {
-    begin(letter);
-    if vectors::asm1_within(v) {
-        let c = vectors::asm1_drawn(v, 1000);
-        let o = interface::feed_of(vectors::HOUSE, c);
-        test_show::number(b" refusal ", o.refusal);
-        test_show::number(b" D ", o.burnt.0);
-        test_show::number(b" o ", o.oxygen.0);
-        test_show::number(b" r ", o.nitrate.0);
-        test_show::number(b" warn ", o.warn);
-        let d = o.vector;
-        test_show::digester(d);
+// Each example on a line behind its letter.
+fn main() {
+    for (letter, example) in PLANTS {
+        test_show::text(&[letter]);
+        test_show::text(b":");
+        match example {
+            Feed(v) => feed(v),
+            Return(xi, xc, sin) => give_back(test_show::with(
+                [0; 26],
+                &[(digester::XI, xi), (digester::XC, xc), (digester::SIN, sin)],
+            )),
+        }
+        test_show::text(b"\n");
     }
-    test_show::text(b"\n");
 }
 
-// One return.
-fn give_back(letter: u8, v: [u64; 26]) {
-    begin(letter);
-    if vectors::digester_within(v) {
-        let c = vectors::digester_drawn(v, 1000);
-        let o = interface::return_of(vectors::HOUSE, c);
-        test_show::number(b" refusal ", o.refusal);
-        test_show::number(b" stripped ", o.stripped.0);
-        let s = o.vector;
-        test_show::asm1(s);
+// The whole of a sludge vector is fed.
+fn feed(v: [u64; 13]) {
+    if vectors::is_within(v) {
+        let c = vectors::drawn(v, 1000);
+        match interface::feed_of(vectors::HOUSE, c) {
+            Ok(o) => fed(0, o),
+            Err(refusal) => fed(refusal.number(), NOT_FED),
+        }
     }
-    test_show::text(b"\n");
 }
 
-fn begin(letter: u8) {
-    let name = [letter];
-    test_show::text(&name);
-    test_show::text(b":");
+// A refusal has zeros for what is told, and in the vector.
+const NOT_FED: Fed = Fed {
+    burnt: Milligrams(0),
+    oxygen: Milligrams(0),
+    nitrate: Ticks(0),
+    warn: 0,
+    vector: [0; 26],
+};
+
+fn fed(n: u64, o: Fed) {
+    test_show::number(b" refusal ", n);
+    test_show::number(b" D ", o.burnt.0);
+    test_show::number(b" o ", o.oxygen.0);
+    test_show::number(b" r ", o.nitrate.0);
+    test_show::number(b" warn ", o.warn);
+    test_show::digester(o.vector);
+}
+
+// The whole of a digester vector is returned.
+fn give_back(v: [u64; 26]) {
+    if vectors::is_within(v) {
+        let c = vectors::drawn(v, 1000);
+        match interface::return_of(vectors::HOUSE, c) {
+            Ok(o) => returned(0, o),
+            Err(refusal) => returned(refusal.number(), NOT_RETURNED),
+        }
+    }
+}
+
+const NOT_RETURNED: Returned = Returned {
+    stripped: Milligrams(0),
+    vector: [0; 13],
+};
+
+fn returned(n: u64, o: Returned) {
+    test_show::number(b" refusal ", n);
+    test_show::number(b" stripped ", o.stripped.0);
+    test_show::asm1(o.vector);
 }

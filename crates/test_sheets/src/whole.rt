@@ -1,132 +1,115 @@
 // Whole sheets, two bad columns, and records that refuse a sheet.
-use crate::values::{SALK, SNO, SO, SS};
-use crate::write::{example, one, two};
+use crate::write::{example, sheet};
 use plant::Plant;
 use sheets::Finding;
+use sheets::Finding::{BelowLimit, Measured, NotSampled};
+use test_show::places::asm1::{SALK, SNO, SO, SS};
 
 // Thirteen measured values, thirteen limits, nothing sampled, and one of all kinds.
 pub fn sheets() {
     example(b"measured", plant::fresh(), measured());
     example(b"measured again", held(), measured());
     example(b"limits", plant::fresh(), limits());
-    let none = [Finding::NotSampled; 13];
+    let none = [NotSampled; 13];
     example(b"nothing sampled", held(), none);
     example(b"mixed", held(), mixed());
-    let all = [Finding::BelowLimit(1000000000.0); 13];
+    let all = [BelowLimit(1000000000.0); 13];
     example(b"highest limits", plant::fresh(), all);
 }
 
 // The first bad column decides, and 13 comes before 14 at one column alone.
 pub fn first_bad_column() {
-    let high = Finding::Measured(2000000000.0);
-    let below = Finding::Measured(-1.0);
-    let limit = Finding::BelowLimit(2000000000.0);
-    let wrong = Finding::BelowLimit(-1.0);
-    example(b"14, then 13", plant::fresh(), two(SS, high, SNO, below));
-    example(b"13, then 14", plant::fresh(), two(SS, below, SNO, high));
+    let high = Measured(2000000000.0);
+    let below = Measured(-1.0);
+    let limit = BelowLimit(2000000000.0);
+    let wrong = BelowLimit(-1.0);
+    example(
+        b"14, then 13",
+        plant::fresh(),
+        sheet(&[(SS, high), (SNO, below)]),
+    );
+    example(
+        b"13, then 14",
+        plant::fresh(),
+        sheet(&[(SS, below), (SNO, high)]),
+    );
     example(
         b"limits 14, then 13",
         plant::fresh(),
-        two(SO, limit, SALK, wrong),
+        sheet(&[(SO, limit), (SALK, wrong)]),
     );
     example(
         b"limits 13, then 14",
         plant::fresh(),
-        two(SO, wrong, SALK, limit),
+        sheet(&[(SO, wrong), (SALK, limit)]),
     );
-    let least = Finding::Measured(-2000000000.0);
-    example(b"both at one column", plant::fresh(), one(SS, least));
+    let least = Measured(-2000000000.0);
+    example(b"both at one column", plant::fresh(), sheet(&[(SS, least)]));
 }
 
 // Refusals 1 and 10 stand behind 13 and 14.
 pub fn behind() {
-    let high = Finding::Measured(2000000000.0);
-    let below = Finding::Measured(-1.0);
-    let full = Finding::Measured(1000000000.0);
+    let high = Measured(2000000000.0);
+    let below = Measured(-1.0);
+    let full = Measured(1000000000.0);
     example(b"record above", above(), measured());
-    example(b"record above, 13", above(), one(SALK, below));
-    example(b"record above, 14", above(), one(SALK, high));
-    example(b"no room", held(), one(SS, full));
-    example(b"no room, 14", held(), two(SS, full, SALK, high));
+    example(b"record above, 13", above(), sheet(&[(SALK, below)]));
+    example(b"record above, 14", above(), sheet(&[(SALK, high)]));
+    example(b"no room", held(), sheet(&[(SS, full)]));
+    example(b"no room, 14", held(), sheet(&[(SS, full), (SALK, high)]));
     example(
         b"limits need no room",
         held(),
-        one(SS, Finding::BelowLimit(1000000000.0)),
+        sheet(&[(SS, BelowLimit(1000000000.0))]),
     );
 }
 
-// A record that holds 1 in each column of its sludge tank, and one that has a column of its reject tank above the ceiling.
+// A record that holds 1 in each column of its sludge tank.
 fn held() -> Plant {
     Plant {
         sludge: [1; 13],
-        digester: [0; 26],
-        reject: [0; 13],
+        ..plant::fresh()
     }
 }
 
+// One that has a column of its reject tank above the ceiling.
 fn above() -> Plant {
-    let mut v = [0u64; 13];
-    v[12] = 1000000000001;
     Plant {
-        sludge: [0; 13],
-        digester: [0; 26],
-        reject: v,
+        reject: test_show::with([0; 13], &[(SALK, 1000000000001)]),
+        ..plant::fresh()
     }
 }
 
-// A sheet as a laboratory sends it.
-fn measured() -> [Finding; 13] {
-    [
-        Finding::Measured(30.1),
-        Finding::Measured(63.25),
-        Finding::Measured(51.2),
-        Finding::Measured(202.32),
-        Finding::Measured(28.17),
-        Finding::Measured(0.1),
-        Finding::Measured(0.007),
-        Finding::Measured(2.0003),
-        Finding::Measured(5.37),
-        Finding::Measured(31.56),
-        Finding::Measured(6.9500003),
-        Finding::Measured(10.59),
-        Finding::Measured(7.0005),
-    ]
+// The numbers of a sheet as a laboratory sends it.
+const NUMBERS: [f32; 13] = [
+    30.1, 63.25, 51.2, 202.32, 28.17, 0.1, 0.007, 2.0003, 5.37, 31.56, 6.9500003, 10.59, 7.0005,
+];
+
+// They are measured.
+fn measured() -> [Finding<f32>; 13] {
+    NUMBERS.map(Measured)
 }
 
 // The same numbers as limits.
-fn limits() -> [Finding; 13] {
-    [
-        Finding::BelowLimit(30.1),
-        Finding::BelowLimit(63.25),
-        Finding::BelowLimit(51.2),
-        Finding::BelowLimit(202.32),
-        Finding::BelowLimit(28.17),
-        Finding::BelowLimit(0.1),
-        Finding::BelowLimit(0.007),
-        Finding::BelowLimit(2.0003),
-        Finding::BelowLimit(5.37),
-        Finding::BelowLimit(31.56),
-        Finding::BelowLimit(6.9500003),
-        Finding::BelowLimit(10.59),
-        Finding::BelowLimit(7.0005),
-    ]
+fn limits() -> [Finding<f32>; 13] {
+    NUMBERS.map(BelowLimit)
 }
 
 // Every kind in COD, in ticks and in between.
-fn mixed() -> [Finding; 13] {
+fn mixed() -> [Finding<f32>; 13] {
     [
-        Finding::Measured(30.1),
-        Finding::BelowLimit(0.05),
-        Finding::NotSampled,
-        Finding::Measured(202.32),
-        Finding::BelowLimit(0.0999),
-        Finding::NotSampled,
-        Finding::Measured(0.007),
-        Finding::BelowLimit(0.25),
-        Finding::Measured(5.37),
-        Finding::BelowLimit(0.0001),
-        Finding::NotSampled,
-        Finding::BelowLimit(0.00025),
-        Finding::BelowLimit(0.0125),
+        Measured(30.1),
+        BelowLimit(0.05),
+        NotSampled,
+        Measured(202.32),
+        BelowLimit(0.0999),
+        NotSampled,
+        Measured(0.007),
+        BelowLimit(0.25),
+        Measured(5.37),
+        BelowLimit(0.0001),
+        NotSampled,
+        BelowLimit(0.00025),
+        BelowLimit(0.0125),
     ]
 }

@@ -1,11 +1,11 @@
-// Writes text, numbers and columns to standard output, for the test programs.
+// Writes text, numbers and columns to standard output, for the test programs, and makes vectors by some of their columns.
 //
 //   pattern   a pattern in a lent buffer, and whether it is there still
+//   places    where the columns stand in the two vectors
 #![tactic(auto)]
 
-ghost use Rattle.std.specs.Prelude.{◌≡◌, ◌*◌, length};
-
 mod pattern;
+pub mod places;
 
 pub use pattern::{behind, fill};
 
@@ -19,30 +19,43 @@ pub fn number(name: &[u8], x: u64) {
     io::print_decimal(1, x);
 }
 
-// The columns of an ASM1 vector that are not zero, each with its name, for which five bytes are kept.
+// The columns of an ASM1 vector that are not zero, each with its name.
 pub fn asm1(v: [u64; 13]) {
-    let names = b"   si   ss   xi   xs  xbh  xba   xp   so  sno  snh  snd  xnd salk";
-    columns(names, &v);
+    let names = [
+        *b"   si", *b"   ss", *b"   xi", *b"   xs", *b"  xbh", *b"  xba", *b"   xp", *b"   so",
+        *b"  sno", *b"  snh", *b"  snd", *b"  xnd", *b" salk",
+    ];
+    columns(names, v);
 }
 
 // The same of a digester vector.
 pub fn digester(v: [u64; 26]) {
-    let names =
-        b"   si  ssu  saa  sfa  sva  sbu spro  sac  sh2 sch4   xi   xc  xch  xpr  xli  xsu  xaa  xfa  xc4 xpro  xac  xh2  sin  sic   co   cn";
-    columns(names, &v);
+    let names = [
+        *b"   si", *b"  ssu", *b"  saa", *b"  sfa", *b"  sva", *b"  sbu", *b" spro", *b"  sac",
+        *b"  sh2", *b" sch4", *b"   xi", *b"   xc", *b"  xch", *b"  xpr", *b"  xli", *b"  xsu",
+        *b"  xaa", *b"  xfa", *b"  xc4", *b" xpro", *b"  xac", *b"  xh2", *b"  sin", *b"  sic",
+        *b"   co", *b"   cn",
+    ];
+    columns(names, v);
 }
 
-fn columns(names: &[u8], v: &[u64])
-    requires { length names.now ≡ 5 * length v.now }
-{
-    let mut i = 0;
-    while i < v.len() {
-        if v[i] != 0 {
-            let start = i * 5;
-            let end = start + 5;
-            text(&names[start..end]);
-            number(b" ", v[i]);
+// As many names, of five bytes each, as there are columns.
+fn columns<const N: usize>(names: [[u8; 5]; N], v: [u64; N]) {
+    for (name, x) in names.iter().zip(v.iter()) {
+        if *x != 0 {
+            text(name);
+            number(b" ", *x);
         }
-        i += 1;
     }
+}
+
+// A vector with other values at some of its places; a place past its end is none.
+pub fn with<T: Copy, const N: usize>(v: [T; N], entries: &[(usize, T)]) -> [T; N] {
+    let mut v = v;
+    for (i, x) in entries {
+        if let Some(column) = v.get_mut(*i) {
+            *column = *x;
+        }
+    }
+    v
 }

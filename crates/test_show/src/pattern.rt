@@ -3,10 +3,8 @@ use crate::text;
 
 // Writes the pattern.
 pub fn fill(buf: &mut [u8]) {
-    let mut i = 0;
-    while i < buf.len() {
-        buf[i] = mark(i);
-        i += 1;
+    for (i, b) in buf.iter_mut().enumerate() {
+        *b = mark(i);
     }
 }
 
@@ -21,14 +19,10 @@ pub fn behind(buf: &[u8], n: usize) {
 
 // Whether the bytes from a place on have the pattern still.
 fn kept(buf: &[u8], from: usize) -> bool {
-    let mut i = from;
-    while i < buf.len() {
-        if buf[i] != mark(i) {
-            return false;
-        }
-        i += 1;
-    }
-    true
+    buf.iter()
+        .enumerate()
+        .skip(from)
+        .all(|(i, b)| *b == mark(i))
 }
 
 // The pattern: a byte that goes by its place and is never zero.

@@ -8,9 +8,10 @@
 --   within                             no column is above its ceiling, as a test
 --   Below                              the same as one inequality for each column
 --   added                              the sum of two vectors, column by column
+--   fits                               a column of the sum is at most its ceiling, with no sum made
 --
 -- A column past the end of a list counts as zero, so that every law below holds for lists of any length.
-use Rattle.std.specs.Prelude.{Bool, true, false, ◌&&◌, List, [], ◌∷◌, ℕ, suc, ◌+◌, ◌≤◌, leb, get_or}
+use Rattle.std.specs.Prelude.{Bool, true, false, ◌&&◌, List, [], ◌∷◌, ℕ, suc, ◌+◌, ◌-◌, ◌≤◌, leb, get_or}
 use Prim.Native.String.{String}
 
 -- ---- ASM1: thirteen columns, 004 Table 1
@@ -208,3 +209,7 @@ unfoldable pub added : List ℕ → List ℕ → List ℕ
 added [] w = w
 added (x ∷ v) [] = x ∷ v
 added (x ∷ v) (y ∷ w) = (x + y) ∷ added v w
+
+-- the sum of a pair is at most the third, with no sum made
+abbrev pub fits : (ℕ × ℕ) × ℕ → Bool
+fits p = leb p.0.0 p.1 && leb p.0.1 (p.1 - p.0.0)

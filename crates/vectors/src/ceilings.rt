@@ -1,157 +1,57 @@
-// Ceilings of the columns, and sums of vectors.
-ghost use Rattle.std.specs.Prelude.{true, ◌≡◌, ℕ, ◌+◌, ◌<◌, length, get_or};
-ghost use Rattle.vectors.specs.Columns.{asm1_ceilings, digester_ceilings, within, added};
+// Ceilings, and sums of vectors.
+ghost use Rattle.std.specs.Prelude.{true, ◌&&◌, ◌≡◌, leb};
+ghost use Rattle.std.specs.List.{fold, list_all, zip};
+ghost use Rattle.vectors.specs.Columns.{within, added, fits};
 
-// The ceiling of a column of COD, oxygen or millimoles, and of one of ticks.
-pub const COD_CEILING: u64 = 1000000000000;
+use crate::vector::Vector;
 
-pub const TICK_CEILING: u64 = 10000000000000000;
-
-// The ceilings in document 01's order of columns.
-pub const ASM1_CEILINGS: [u64; 13] = [
-    COD_CEILING,
-    COD_CEILING,
-    COD_CEILING,
-    COD_CEILING,
-    COD_CEILING,
-    COD_CEILING,
-    COD_CEILING,
-    COD_CEILING,
-    TICK_CEILING,
-    TICK_CEILING,
-    TICK_CEILING,
-    TICK_CEILING,
-    COD_CEILING,
-];
-
-pub const DIGESTER_CEILINGS: [u64; 26] = [
-    COD_CEILING,
-    COD_CEILING,
-    COD_CEILING,
-    COD_CEILING,
-    COD_CEILING,
-    COD_CEILING,
-    COD_CEILING,
-    COD_CEILING,
-    COD_CEILING,
-    COD_CEILING,
-    COD_CEILING,
-    COD_CEILING,
-    COD_CEILING,
-    COD_CEILING,
-    COD_CEILING,
-    COD_CEILING,
-    COD_CEILING,
-    COD_CEILING,
-    COD_CEILING,
-    COD_CEILING,
-    COD_CEILING,
-    COD_CEILING,
-    TICK_CEILING,
-    COD_CEILING,
-    COD_CEILING,
-    TICK_CEILING,
-];
-
-// Whether no column of an ASM1 vector is above its ceiling.
-pub fn asm1_within(v: [u64; 13]) -> bool
-    ensures { result ≡ within asm1_ceilings v }
+// Whether no column of a vector is above its ceiling.
+pub fn is_within<const N: usize>(v: [u64; N]) -> bool
+where
+    [u64; N]: Vector<N>,
+    ensures { result ≡ within ⟦<[u64; N] as Vector<N>>⟧.CEILINGS v.entry }
 {
-    let c = ASM1_CEILINGS;
-    all_within(&v, &c)
+    all_low(&v, &<[u64; N] as Vector<N>>::CEILINGS)
 }
 
-// The same of a digester vector.
-pub fn digester_within(v: [u64; 26]) -> bool
-    ensures { result ≡ within digester_ceilings v }
+// Whether no column of the sum of two vectors is above its ceiling.
+pub fn sum_is_within<const N: usize>(a: [u64; N], b: [u64; N]) -> bool
+where
+    [u64; N]: Vector<N>,
+    ensures { result ≡ within ⟦<[u64; N] as Vector<N>>⟧.CEILINGS (added a.entry b.entry) }
 {
-    let c = DIGESTER_CEILINGS;
-    all_within(&v, &c)
+    all_fit(&a, &b, &<[u64; N] as Vector<N>>::CEILINGS)
 }
 
-// Whether no column of the sum of two ASM1 vectors is above its ceiling.
-pub fn asm1_sum_within(a: [u64; 13], b: [u64; 13]) -> bool
-    ensures { result ≡ within asm1_ceilings (added a b) }
-{
-    let c = ASM1_CEILINGS;
-    sum_within(&a, &b, &c)
-}
-
-// The same of two digester vectors.
-pub fn digester_sum_within(a: [u64; 26], b: [u64; 26]) -> bool
-    ensures { result ≡ within digester_ceilings (added a b) }
-{
-    let c = DIGESTER_CEILINGS;
-    sum_within(&a, &b, &c)
-}
-
-// The sum of two ASM1 vectors.
-pub fn asm1_sum(a: [u64; 13], b: [u64; 13]) -> [u64; 13]
-    requires { within asm1_ceilings (added a b) ≡ true }
-    ensures { result ≡ added a b }
+// The sum of two vectors.
+pub fn sum<const N: usize>(a: [u64; N], b: [u64; N]) -> [u64; N]
+where
+    [u64; N]: Vector<N>,
+    requires { within ⟦<[u64; N] as Vector<N>>⟧.CEILINGS (added a b) ≡ true }
+    ensures { result ≡ added a.entry b.entry }
 {
     let mut s = a;
-    add_into(&mut s, &b);
+    for i in 0..N {
+        s[i] += b[i];
+    }
     s
 }
 
-// The sum of two digester vectors.
-pub fn digester_sum(a: [u64; 26], b: [u64; 26]) -> [u64; 26]
-    requires { within digester_ceilings (added a b) ≡ true }
-    ensures { result ≡ added a b }
+// Whether each column is at most its ceiling. It goes through all columns, because a test that leaves early runs slower.
+fn all_low(v: &[u64], ceilings: &[u64]) -> bool
+    ensures { result ≡ fold (λ ok p. ok && leb p.0 p.1) true (zip v.now ceilings.now) }
 {
-    let mut s = a;
-    add_into(&mut s, &b);
-    s
+    v.iter()
+        .zip(ceilings)
+        .fold(true, |ok, (x, c)| ok & (*x <= *c))
 }
 
-// It goes through all columns, because a loop that leaves early runs slower.
-fn all_within(v: &[u64], ceilings: &[u64]) -> bool
-    requires { length v.now ≡ length ceilings.now }
-    ensures { result ≡ within ceilings.now v.now }
+// Whether each column of the sum is at most its ceiling. It adds nothing, so it asks for no bound.
+fn all_fit(a: &[u64], b: &[u64], ceilings: &[u64]) -> bool
+    ensures { result ≡ list_all fits (zip (zip a.now b.now) ceilings.now) }
 {
-    let mut ok = true;
-    let mut i = 0;
-    while i < v.len() {
-        if ceilings[i] < v[i] {
-            ok = false;
-        }
-        i += 1;
-    }
-    ok
-}
-
-// It adds nothing, so it asks for no bound.
-fn sum_within(a: &[u64], b: &[u64], ceilings: &[u64]) -> bool
-    requires { (length a.now ≡ length ceilings.now) × (length b.now ≡ length ceilings.now) }
-    ensures { result ≡ within ceilings.now (added a.now b.now) }
-{
-    let mut i = 0;
-    while i < a.len() {
-        let c = ceilings[i];
-        let x = a[i];
-        let y = b[i];
-        if c < x {
-            return false;
-        }
-        if c - x < y {
-            return false;
-        }
-        i += 1;
-    }
-    true
-}
-
-// Adds src to dst, column by column.
-fn add_into(dst: &mut [u64], src: &[u64])
-    requires same_length { length src.now ≡ length dst.old }
-    requires sums_fit { (i : ℕ) → get_or dst.old i 0 + get_or src.now i 0 < 18446744073709551616 }
-    ensures { dst.new ≡ added dst.old src.now }
-{
-    let mut i = 0;
-    while i < dst.len() {
-        let x = dst[i];
-        dst[i] = x + src[i];
-        i += 1;
-    }
+    a.iter()
+        .zip(b)
+        .zip(ceilings)
+        .all(|((x, y), c)| *x <= *c && *y <= *c - *x)
 }

@@ -1,107 +1,68 @@
-// One tuple struct for each unit of document 01, with its sums and tests: a sum or a test of two units does not compile. What goes
-// from one unit to the other stands here: `nitrogen`, `afforded`, `covers`, `ticks_for` and `milligrams_for`. (The totals add raw columns
-// by their weights.)
-ghost use Rattle.std.specs.Prelude.{◌≡◌, ◌+◌, ◌-◌, ◌*◌, ◌/◌, ◌≤◌, min, leb, ltb, eqb};
+// One tuple struct for each unit of document 01: a sum or a test of two units does not compile. What goes from one unit to the other
+// stands here: `nitrogen`, `afforded`, `covers`, `ticks_for` and `milligrams_for`. (The totals add raw columns by their weights.)
+ghost use Rattle.std.specs.Prelude.{◌≡◌, ℕ, ◌+◌, ◌-◌, ◌*◌, ◌/◌, ◌≤◌, min, leb};
 
 // Milligrams of COD or of oxygen.
-#[derive(Clone, Copy)]
+#[derive(Clone, Copy, PartialEq, Eq, PartialOrd, Ord)]
 pub struct Milligrams(pub u64);
 
 // Ticks of nitrogen or of nitrate: 0.0001 mg N.
-#[derive(Clone, Copy)]
+#[derive(Clone, Copy, PartialEq, Eq, PartialOrd, Ord)]
 pub struct Ticks(pub u64);
 
 // Millimoles of alkalinity or of inorganic carbon.
-#[derive(Clone, Copy)]
+#[derive(Clone, Copy, PartialEq, Eq, PartialOrd, Ord)]
 pub struct Millimoles(pub u64);
 
-impl Milligrams {
+// A unit by its counts, with the sum and the difference of two of them, written once. Order, equality and the smaller of two are derived.
+pub trait Unit: Copy {
+    ghost count: { Self → ℕ };
+
+    // So many of the unit.
+    fn of(n: u64) -> Self
+        ensures { count result ≡ n };
+
+    // How many they are.
+    fn count(self) -> u64
+        ensures { result ≡ count self };
+
     // The sum of the two.
-    pub fn plus(self, other: Milligrams) -> Milligrams
-        requires { self.0 + other.0 ≤ 100000000000000 }
-        ensures { (result.0 ≡ self.0 + other.0) × (result.0 ≤ 100000000000000) }
+    fn plus(self, other: Self) -> Self
+        requires { count self + count other ≤ 1000000000000000000 }
+        ensures { (count result ≡ count self + count other) × (count result ≤ 1000000000000000000) }
     {
-        Milligrams(self.0 + other.0)
+        Self::of(self.count() + other.count())
     }
 
     // What is left when other is taken from it, or nothing.
-    pub fn less(self, other: Milligrams) -> Milligrams
-        ensures { (result.0 ≡ self.0 - other.0) × (result.0 ≤ self.0) }
+    fn less(self, other: Self) -> Self
+        ensures { (count result ≡ count self - count other) × (count result ≤ count self) }
     {
-        Milligrams(difference(self.0, other.0))
-    }
-
-    // The smaller of the two.
-    pub fn least(self, other: Milligrams) -> Milligrams
-        ensures { (result.0 ≡ min self.0 other.0) × ((result.0 ≤ self.0) × (result.0 ≤ other.0)) }
-    {
-        Milligrams(smaller(self.0, other.0))
-    }
-
-    // Whether it is less than other.
-    pub fn is_under(self, other: Milligrams) -> bool
-        ensures { result ≡ ltb self.0 other.0 }
-    {
-        is_smaller(self.0, other.0)
-    }
-
-    // Whether it is as much as other.
-    pub fn equals(self, other: Milligrams) -> bool
-        ensures { result ≡ eqb self.0 other.0 }
-    {
-        self.0 == other.0
-    }
-
-    // Whether it is nothing.
-    pub fn is_none(self) -> bool
-        ensures { result ≡ eqb self.0 0 }
-    {
-        self.0 == 0
+        Self::of(self.count().saturating_sub(other.count()))
     }
 }
 
-impl Ticks {
-    // The sum of the two.
-    pub fn plus(self, other: Ticks) -> Ticks
-        requires { self.0 + other.0 ≤ 1000000000000000000 }
-        ensures { (result.0 ≡ self.0 + other.0) × (result.0 ≤ 1000000000000000000) }
-    {
-        Ticks(self.0 + other.0)
+impl Unit for Milligrams {
+    ghost count = { λ x. x.0 };
+
+    fn of(n: u64) -> Milligrams {
+        Milligrams(n)
     }
 
-    // What is left when other is taken from it, or nothing.
-    pub fn less(self, other: Ticks) -> Ticks
-        ensures { (result.0 ≡ self.0 - other.0) × (result.0 ≤ self.0) }
-    {
-        Ticks(difference(self.0, other.0))
+    fn count(self) -> u64 {
+        self.0
+    }
+}
+
+impl Unit for Ticks {
+    ghost count = { λ x. x.0 };
+
+    fn of(n: u64) -> Ticks {
+        Ticks(n)
     }
 
-    // The smaller of the two.
-    pub fn least(self, other: Ticks) -> Ticks
-        ensures { (result.0 ≡ min self.0 other.0) × ((result.0 ≤ self.0) × (result.0 ≤ other.0)) }
-    {
-        Ticks(smaller(self.0, other.0))
-    }
-
-    // Whether it is less than other.
-    pub fn is_under(self, other: Ticks) -> bool
-        ensures { result ≡ ltb self.0 other.0 }
-    {
-        is_smaller(self.0, other.0)
-    }
-
-    // Whether it is as much as other.
-    pub fn equals(self, other: Ticks) -> bool
-        ensures { result ≡ eqb self.0 other.0 }
-    {
-        self.0 == other.0
-    }
-
-    // Whether it is nothing.
-    pub fn is_none(self) -> bool
-        ensures { result ≡ eqb self.0 0 }
-    {
-        self.0 == 0
+    fn count(self) -> u64 {
+        self.0
     }
 }
 
@@ -118,7 +79,7 @@ pub fn afforded(x: Milligrams, m: Ticks, figure: u64) -> Milligrams
     requires { 1 ≤ figure }
     ensures { (result.0 ≡ min x.0 (m.0 / figure)) × ((result.0 ≤ x.0) × (figure * result.0 ≤ m.0)) }
 {
-    Milligrams(smaller(x.0, m.0 / figure))
+    Milligrams(x.0.min(m.0 / figure))
 }
 
 // The share of x that is a parts of b.
@@ -151,31 +112,4 @@ pub fn milligrams_for(n: Ticks, cod: u64, ticks: u64) -> Milligrams
     ensures { result.0 ≡ (cod * n.0 + (ticks - 1)) / ticks }
 {
     Milligrams((cod * n.0 + (ticks - 1)) / ticks)
-}
-
-// Whether one count is less than another, for both units.
-fn is_smaller(a: u64, b: u64) -> bool
-    ensures { result ≡ ltb a b }
-{
-    a < b
-}
-
-// The smaller of two counts.
-fn smaller(a: u64, b: u64) -> u64
-    ensures { result ≡ min a b }
-{
-    if a < b {
-        return a;
-    }
-    b
-}
-
-// What is left of a when b is taken from it, or 0.
-fn difference(a: u64, b: u64) -> u64
-    ensures { (result ≡ a - b) × (result ≤ a) }
-{
-    if a < b {
-        return 0;
-    }
-    a - b
 }

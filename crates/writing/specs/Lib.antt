@@ -1,3 +1,4 @@
 pub mod Buffer
+pub mod Page
 pub mod Answer
 pub mod ReadBack

@@ -5,10 +5,13 @@
 --   replies          the words of accepted answers
 --   read_answer      the answer that a text stands for
 --   all_short        every number that an answer tells has at most twenty digits, as every number of the code has
+--   by_number        an answer with its refusal by the number
 --   ReadBackLaw      reading what was written gives the answer back. proofs/Laws/ReadBack.antt proves it: answer-read
 --   ReadColumnsLaw   and the vector of a release: columns-read
 --   SameTextLaw      two answers that differ are written differently: answer-same
 use Rattle.std.specs.Prelude.{Bool, true, false, cond, not, ◌&&◌, List, [], ◌∷◌, ◌≡◌, ℕ, ◌+◌, ◌-◌, ◌*◌, ◌^◌, ◌<◌, eqb, length, drop, get_or}
+use Rattle.refusals.specs.declared.Refusal.TheVariants.{Other}
+use Rattle.refusals.specs.Refusal.{number}
 use Rattle.vectors.specs.Units.{milligrams, ticks}
 use Rattle.plant.specs.declared.answer.Answer.{Answer}
 use Rattle.plant.specs.declared.answer.Answer.TheVariants.{Refused, Received, Fed, Settled, Returned, Released, Recycled}
@@ -50,7 +53,7 @@ replies ns =
 unfoldable pub read_answer : List ℕ → Answer
 read_answer s =
     let ns = numbers_in s in
-    let no = Refused (get_or ns 0 0) in
+    let no = Refused (Other (get_or ns 0 0)) in
     cond (eqb (get_or s 1 0) 110) no (look_up no (replies ns) (word_in s))
 
 abbrev pub short : ℕ → Type 0
@@ -61,12 +64,22 @@ all_short a =
     let t = told a in
     short t.number × short t.burnt × short t.oxygen × short t.nitrate × short t.warn × short t.stripped
 
+-- an answer with its refusal by the number, which is all that a text holds of it
+abbrev pub by_number : Answer → Answer
+by_number (Refused r) = Refused (Other (number r))
+by_number Received = Received
+by_number (Fed b o n w) = Fed b o n w
+by_number Settled = Settled
+by_number (Returned s) = Returned s
+by_number Released = Released
+by_number Recycled = Recycled
+
 abbrev pub ReadBackLaw : Type 0
-ReadBackLaw = (a : Answer) (v : List ℕ) → all_short a → read_answer (answer_text a v) ≡ a
+ReadBackLaw = (a : Answer) (v : List ℕ) → all_short a → read_answer (answer_text a v) ≡ by_number a
 
 abbrev pub ReadColumnsLaw : Type 0
 ReadColumnsLaw = (v : List ℕ) → length v ≡ 13 → ((k : ℕ) → short (get_or v k 0)) → numbers_in (answer_text Released v) ≡ v
 
 -- two answers that differ are written differently
 abbrev pub SameTextLaw : Type 0
-SameTextLaw = (a b : Answer) (v w : List ℕ) → all_short a → all_short b → answer_text a v ≡ answer_text b w → a ≡ b
+SameTextLaw = (a b : Answer) (v w : List ℕ) → all_short a → all_short b → answer_text a v ≡ answer_text b w → by_number a ≡ by_number b

@@ -1,11 +1,14 @@
 // Writing: answers as text into a lent buffer.
 //
-//   put      bytes, numbers and columns into a lent buffer
+//   put      bytes at a place of a lent buffer
+//   page     bytes, numbers and columns, each behind the piece before
 //   answer   an answer and the held line as text
 #![tactic(auto)]
 
 mod answer;
+mod page;
 mod put;
 
 pub use answer::{filled_answer, write_answer, write_held};
-pub use put::{filled_part, put_bytes, put_column, put_fitting, put_labelled};
+pub use page::Page;
+pub use put::{filled_part, put_bytes, put_fitting};

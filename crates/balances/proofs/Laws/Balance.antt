@@ -2,6 +2,7 @@
 --
 --   Quantity           what a balance is about: a total of each vector, and what a call lets go of it
 --   Kept               one call keeps a quantity
+--   fed-kept, ..       what becomes of a conversion does
 --   done-kept          each call does where no refusal applies
 --   step_kept          any call does
 --   sheet-kept         a sheet does
@@ -17,11 +18,18 @@ use mathlib.Core.Path.{◌≡◌, refl, ap, ◌∙◌}
 use Prim.Native.Nat.{ℕ, ◌+◌, ◌≤◌}
 use native.Mathlib.Nat.{zero-add}
 use native.Mathlib.Omega.{arith}
-use lib.Dec.{eqb}
-use borrow.Author.Tests.{ne_eqb}
+use Rattle.std.specs.Prelude.{Option, None, Result, Ok, Err}
+use Rattle.refusals.specs.declared.Refusal.{Refusal}
+use Rattle.refusals.specs.declared.Refusal.TheVariants.{RecordAbove, NotThousandths, TankAbove}
+use Rattle.refusals.specs.Refusal.{number, number_of}
+use Rattle.refusals.specs.Tests.{unless, first}
+use Rattle.interface.specs.declared.feed.Fed as in_feed
+use Rattle.interface.specs.declared.returning.Returned as in_return
+use Rattle.std.specs.Prelude.{Float, is_none}
 use Rattle.vectors.specs.declared.figures.Figures.{Figures}
 use Rattle.vectors.specs.Figures.{Permitted}
-use Rattle.vectors.specs.Draw.{drawn}
+use Rattle.vectors.specs.Columns.{asm1_ceilings, within, added}
+use Rattle.vectors.specs.Draw.{drawn, rest}
 use Rattle.vectors.specs.Totals.{asm1_cod, asm1_tkn, asm1_oxygen, asm1_nitrate, digester_cod, digester_tkn, digester_oxygen, digester_nitrate}
 use Rattle.interface.specs.Feed.{feed_of}
 use Rattle.interface.specs.Return.{return_of}
@@ -36,13 +44,14 @@ use Rattle.plant.specs.declared.answer.Call.TheVariants as call
 use Rattle.plant.specs.declared.answer.Request.{Request}
 use Rattle.plant.specs.declared.answer.Outcome.{Outcome}
 use Rattle.plant.specs.declared.answer.Told.{Told}
-use Rattle.plant.specs.Record.{no_columns, fresh_plant, thousandths}
-use Rattle.plant.specs.Answer.{nothing, told, refused, unless, first}
-use Rattle.plant.specs.Calls.{receive, feed, settle, give_back, release, recycle, rule_by, step_by, step, preview_of}
+use Rattle.plant.specs.Record.{no_columns, fresh_plant, record_within, thousandths}
+use Rattle.plant.specs.Answer.{nothing, told, refused}
+use Rattle.plant.specs.Calls.{receive, feed, settle, give_back, release, recycle, rule_by, ruled, step_by, step, preview_of}
+use Rattle.plant.specs.Calls.{fed_tests, fed, returned_tests, returned}
 use Rattle.plant.specs.Calls.{receiving, recycling}
 use Rattle.plant.proofs.Laws.Record.{thousandths-le}
 use Rattle.plant.proofs.Laws.Calls.{settle-passed}
-use Rattle.plant.proofs.Laws.Decision.{decide-case, first-passed, unless-passed}
+use Rattle.plant.proofs.Laws.Decision.{decide-case, draw-passed}
 use Rattle.sheets.specs.declared.finding.Finding.{Finding}
 use Rattle.sheets.specs.Sheet.{refusal_in, counts_of, sheet_step}
 use Rattle.sheets.proofs.Laws.Sheet.{sheet-plant}
@@ -60,16 +69,17 @@ record Quantity (f : Figures) : Type 0 where
   digester-linear : Linear digester
   -- a call that tells no value and is handed no gas, refused or not, lets nothing go
   silent : (n : ℕ) → lost (nothing n) 0 ≡ 0
-  feeds : (c : List ℕ) → (feed_of f c).refusal ≡ 0
-      → let o = feed_of f c in asm1 c ≡ digester o.vector + lost (told (Fed o.burnt o.oxygen o.nitrate o.warn)) 0
+  feeds : (c : List ℕ) (o : in_feed.Fed) → feed_of f c ≡ Ok o
+      → asm1 c ≡ digester o.vector + lost (told (Fed o.burnt o.oxygen o.nitrate o.warn)) 0
   settles : (g : ℕ) (a d : List ℕ) → digester_cod a ≡ digester_cod d + g → digester_tkn f a ≡ digester_tkn f d
       → digester_oxygen a ≡ digester_oxygen d → digester_nitrate a ≡ digester_nitrate d → digester a ≡ digester d + lost (nothing 0) g
-  returns : (c : List ℕ) → (return_of f c).refusal ≡ 0
-      → digester c ≡ asm1 (return_of f c).vector + lost (told (Returned (return_of f c).stripped)) 0
+  returns : (c : List ℕ) (o : in_return.Returned) → return_of f c ≡ Ok o
+      → digester c ≡ asm1 o.vector + lost (told (Returned o.stripped)) 0
 
 -- the test of k, behind that of the record, passed
-k-le : (k n : ℕ) (ns : List ℕ) → first (n ∷ unless (thousandths k) 2 ∷ ns) ≡ 0 → k ≤ 1000
-k-le k n ns e = thousandths-le k (unless-passed _ 2 tt (first-passed _ _ (first-passed _ _ e).1).0)
+k-le : (p : Plant) (k : ℕ) (ts : List (Option Refusal))
+    → first (unless (record_within p) RecordAbove ∷ unless (thousandths k) NotThousandths ∷ ts) ≡ None → k ≤ 1000
+k-le p k ts e = thousandths-le k (draw-passed p k ts e).0
 
 module _ (f : Figures) (q : Quantity f) where
   abbrev in_tanks : Plant → ℕ
@@ -83,38 +93,56 @@ module _ (f : Figures) (q : Quantity f) where
       + if_accepted o (cond (counts c).released (q.asm1 o.vector) 0)
       + q.lost (told o.answer) (if_accepted o (counts c).gas)
 
-  refused-kept : (p : Plant) (c : Call) (v : List ℕ) (n : ℕ) → (n ≡ 0 → ⊥) → Kept p c v (refused p n)
-  refused-kept p c v n h = rw (ne_eqb n 0 h) (omega (arith, q.silent n))
+  refused-kept : (p : Plant) (c : Call) (v : List ℕ) (r : Refusal) → Kept p c v (refused p r)
+  refused-kept p c v r = omega (arith, q.silent (number r))
+
+  -- what becomes of a conversion that refuses nothing
+  fed-kept : (p : Plant) (k : ℕ) (v : List ℕ) (x : Result in_feed.Fed Refusal) → k ≤ 1000 → feed_of f (drawn k p.sludge) ≡ x
+      → first (fed_tests p x) ≡ None → Kept p (call.Feed k) v (fed p x (rest k p.sludge))
+  fed-kept p k v (Ok o) le h e =
+      let given = q.feeds (drawn k p.sludge) o h in
+      omega (arith, q.asm1-linear.splits k le p.sludge, q.digester-linear.adds p.digester o.vector, given)
+  fed-kept p k v (Err r) le h e = absurd (cc e)
+
+  returned-kept : (p : Plant) (k : ℕ) (v : List ℕ) (x : Result in_return.Returned Refusal) → k ≤ 1000
+      → return_of f (drawn k p.digester) ≡ x → first (returned_tests p x) ≡ None
+      → Kept p (call.Return k) v (returned p x (rest k p.digester))
+  returned-kept p k v (Ok o) le h e =
+      let given = q.returns (drawn k p.digester) o h in
+      omega (arith, q.digester-linear.splits k le p.digester, q.asm1-linear.adds p.reject o.vector, given)
+  returned-kept p k v (Err r) le h e = absurd (cc e)
 
   -- each call where no refusal applies: a further call is one more row
-  done-kept : (p : Plant) (c : Call) (v d : List ℕ) → first (rule_by f p c v d).tests ≡ 0 → Kept p c v (rule_by f p c v d).done
+  done-kept : (p : Plant) (c : Call) (v d : List ℕ) → first (rule_by f p c v d).tests ≡ None → Kept p c v (rule_by f p c v d).done
   unfolding receive feed settle give_back release recycle
   done-kept p call.Receive v d e = omega (arith, q.asm1-linear.adds p.sludge v, q.silent 0)
   done-kept p (call.Feed k) v d e =
-      let c = drawn k p.sludge in
-      let e2 = (first-passed _ _ (first-passed _ _ e).1).1 in
-      let fed = q.feeds c (first-passed _ _ e2).0 in
-      omega (arith, q.asm1-linear.splits k (k-le k _ _ e) p.sludge, q.digester-linear.adds p.digester (feed_of f c).vector, fed)
+      let x = feed_of f (drawn k p.sludge) in
+      let ts = fed_tests p x in
+      fed-kept p k v x (k-le p k ts e) refl (draw-passed p k ts e).1
   done-kept p (call.Settle g) v d e =
-      let s = settle-passed f p g d e in
+      let s = settle-passed f p g d (ap number_of e) in
       omega (arith, q.settles g.0 p.digester d s.cod s.tkn s.oxygen s.nitrate)
   done-kept p (call.Return k) v d e =
-      let c = drawn k p.digester in
-      let e2 = (first-passed _ _ (first-passed _ _ e).1).1 in
-      let given = q.returns c (first-passed _ _ e2).0 in
-      omega (arith, q.digester-linear.splits k (k-le k _ _ e) p.digester, q.asm1-linear.adds p.reject (return_of f c).vector, given)
-  done-kept p (call.Release k) v d e = omega (arith, q.asm1-linear.splits k (k-le k _ _ e) p.reject, q.silent 0)
+      let x = return_of f (drawn k p.digester) in
+      let ts = returned_tests p x in
+      returned-kept p k v x (k-le p k ts e) refl (draw-passed p k ts e).1
+  done-kept p (call.Release k) v d e = omega (arith, q.asm1-linear.splits k (k-le p k [] e) p.reject, q.silent 0)
   done-kept p (call.Recycle k) v d e =
-      omega (arith, q.asm1-linear.splits k (k-le k _ _ e) p.reject, q.asm1-linear.adds p.sludge (drawn k p.reject), q.silent 0)
+      let le = k-le p k (unless (within asm1_ceilings (added p.sludge (drawn k p.reject))) TankAbove ∷ []) e in
+      omega (arith, q.asm1-linear.splits k le p.reject, q.asm1-linear.adds p.sludge (drawn k p.reject), q.silent 0)
 
   step_kept : (p : Plant) (c : Call) (v d : List ℕ) → Kept p c v (step_by f p c v d)
-  unfolding step_by
-  step_kept p c v d = decide-case (Kept p c v) p _ _ (done-kept p c v d) (refused-kept p c v _)
+  unfolding step_by ruled
+  step_kept p c v d =
+      let rule = rule_by f p c v d in
+      decide-case (Kept p c v) p (first rule.tests) rule.done (done-kept p c v d) (refused-kept p c v)
 
   recycle-kept : (p : Plant) (k : ℕ) → in_tanks p ≡ in_tanks (step f p (recycling k)).plant
-  unfolding step_by recycle
+  unfolding step_by ruled recycle
   recycle-kept p k =
-      decide-case (λ o. in_tanks p ≡ in_tanks o.plant) p _ _
+      let rule = recycle p k in
+      decide-case (λ o. in_tanks p ≡ in_tanks o.plant) p (first rule.tests) rule.done
       (λ e. omega (arith, done-kept p (call.Recycle k) no_columns no_columns e, q.silent 0))
       (λ n. refl)
 
@@ -124,10 +152,10 @@ module _ (f : Figures) (q : Quantity f) where
   let_go r o = q.lost (told o.answer) (gas_by r o)
 
   -- a sheet is the receive of its counts, or nothing
-  sheet-kept : (p : Plant) (s : List Finding)
+  sheet-kept : (p : Plant) (s : List (Finding Float))
       → in_tanks p + sheet_adds (received_by q.asm1) f p s
       ≡ in_tanks (sheet_step f p s).plant + sheet_adds (released_by q.asm1) f p s + sheet_adds let_go f p s
-  sheet-kept p s = rw (sheet-plant f p s) (go (eqb (refusal_in s) 0))
+  sheet-kept p s = rw (sheet-plant f p s) (go (is_none (refusal_in s)))
     where
       r : Request
       r = receiving (counts_of s)
@@ -170,9 +198,9 @@ cod-quantity f h =
       asm1-linear = total-laws.asm1_cod;
       digester-linear = total-laws.digester_cod;
       silent = λ n. refl;
-      feeds = λ c e. omega (arith, (feed-keeps f h c e).cod);
+      feeds = λ c o e. omega (arith, (feed-keeps f h c o e).cod);
       settles = λ g a d cod tkn oxygen nitrate. omega arith;
-      returns = λ c e. omega (arith, (return-keeps f c e).cod);
+      returns = λ c o e. omega (arith, (return-keeps f c o e).cod);
     }
 
 tkn-quantity : (f : Figures) → Permitted f → Quantity f
@@ -184,9 +212,9 @@ tkn-quantity f h =
       asm1-linear = total-laws.asm1_tkn f;
       digester-linear = total-laws.digester_tkn f;
       silent = λ n. refl;
-      feeds = λ c e. omega (arith, (feed-keeps f h c e).tkn);
+      feeds = λ c o e. omega (arith, (feed-keeps f h c o e).tkn);
       settles = λ g a d cod tkn oxygen nitrate. omega arith;
-      returns = λ c e. omega (arith, (return-keeps f c e).tkn);
+      returns = λ c o e. omega (arith, (return-keeps f c o e).tkn);
     }
 
 oxygen-quantity : (f : Figures) → Permitted f → Quantity f
@@ -198,9 +226,9 @@ oxygen-quantity f h =
       asm1-linear = total-laws.asm1_oxygen;
       digester-linear = total-laws.digester_oxygen;
       silent = λ n. refl;
-      feeds = λ c e. (feed-keeps f h c e).oxygen;
+      feeds = λ c o e. (feed-keeps f h c o e).oxygen;
       settles = λ g a d cod tkn oxygen nitrate. omega arith;
-      returns = λ c e. omega (arith, (return-keeps f c e).oxygen);
+      returns = λ c o e. omega (arith, (return-keeps f c o e).oxygen);
     }
 
 nitrate-quantity : (f : Figures) → Permitted f → Quantity f
@@ -212,9 +240,9 @@ nitrate-quantity f h =
       asm1-linear = total-laws.asm1_nitrate;
       digester-linear = total-laws.digester_nitrate;
       silent = λ n. refl;
-      feeds = λ c e. (feed-keeps f h c e).nitrate;
+      feeds = λ c o e. (feed-keeps f h c o e).nitrate;
       settles = λ g a d cod tkn oxygen nitrate. omega arith;
-      returns = λ c e. omega (arith, (return-keeps f c e).nitrate);
+      returns = λ c o e. omega (arith, (return-keeps f c o e).nitrate);
     }
 
 -- ---- the law
@@ -227,7 +255,7 @@ unfolding cod_lost
 cod-sums f p [] = refl
 cod-sums f p (calls r ∷ es) = omega (arith, cod-sums f (step f p r).plant es)
 cod-sums f p (previews r ∷ es) = cod-sums f (preview_of f p r).plant es
-cod-sums f p (sheets s ∷ es) = omega (arith, adds (eqb (refusal_in s) 0), cod-sums f (sheet_step f p s).plant es)
+cod-sums f p (sheets s ∷ es) = omega (arith, adds (is_none (refusal_in s)), cod-sums f (sheet_step f p s).plant es)
   where
     r : Request
     r = receiving (counts_of s)
@@ -244,7 +272,7 @@ no-sum : (f : Figures) (p : Plant) (es : List Entry) → sum_over (λ r o. 0) f 
 no-sum f p [] = refl
 no-sum f p (calls r ∷ es) = omega (arith, no-sum f (step f p r).plant es)
 no-sum f p (previews r ∷ es) = no-sum f (preview_of f p r).plant es
-no-sum f p (sheets s ∷ es) = omega (arith, adds (eqb (refusal_in s) 0), no-sum f (sheet_step f p s).plant es)
+no-sum f p (sheets s ∷ es) = omega (arith, adds (is_none (refusal_in s)), no-sum f (sheet_step f p s).plant es)
   where
     adds : (b : Bool) → ◌≡◌ {A = ℕ} (cond b 0 0) 0
     adds true = refl
@@ -296,7 +324,7 @@ after-as-calls : (f : Figures) (p : Plant) (es : List Entry) → after f p es �
 after-as-calls f p [] = refl
 after-as-calls f p (calls r ∷ es) = after-as-calls f (step f p r).plant es
 after-as-calls f p (previews r ∷ es) = after-as-calls f (preview_of f p r).plant es
-after-as-calls f p (sheets s ∷ es) = rw (sheet-plant f p s) (go (eqb (refusal_in s) 0) (λ q. after-as-calls f q es))
+after-as-calls f p (sheets s ∷ es) = rw (sheet-plant f p s) (go (is_none (refusal_in s)) (λ q. after-as-calls f q es))
   where
     go : (b : Bool) → ((q : Plant) → after f q es ≡ after f q (sheets_as_calls es))
         → after f (cond b (step f p (receiving (counts_of s))).plant p) es
@@ -309,7 +337,7 @@ sums-as-calls : (of : Request → Outcome → ℕ) (f : Figures) (p : Plant) (es
 sums-as-calls of f p [] = refl
 sums-as-calls of f p (calls r ∷ es) = ap (λ n. of r (step f p r) + n) (sums-as-calls of f (step f p r).plant es)
 sums-as-calls of f p (previews r ∷ es) = sums-as-calls of f (preview_of f p r).plant es
-sums-as-calls of f p (sheets s ∷ es) = rw (sheet-plant f p s) (go (eqb (refusal_in s) 0) (λ q. sums-as-calls of f q es))
+sums-as-calls of f p (sheets s ∷ es) = rw (sheet-plant f p s) (go (is_none (refusal_in s)) (λ q. sums-as-calls of f q es))
   where
     r : Request
     r = receiving (counts_of s)

@@ -6,7 +6,7 @@
 use mathlib.Core.Bool.{Bool, true, false, cond}
 use mathlib.Core.List.{List, [], ◌∷◌}
 use mathlib.Core.Path.{◌≡◌, refl, sym}
-use lib.Dec.{eqb}
+use Rattle.std.specs.Prelude.{Float, is_none, Ok}
 use Rattle.vectors.specs.declared.figures.Figures.{Figures}
 use Rattle.plant.specs.declared.record.Plant.{Plant}
 use Rattle.plant.specs.Record.{fresh_plant, record_within}
@@ -20,8 +20,8 @@ use Rattle.sheets.specs.Sheet.{refusal_in, counts_of, sheet_step}
 use Rattle.sheets.proofs.Laws.Sheet.{sheet-plant}
 use Rattle.balances.specs.Balance.{Entry, calls, previews, sheets, after}
 
-pub sheet-within : (f : Figures) (p : Plant) (s : List Finding) → record_within p ≡ true → record_within (sheet_step f p s).plant ≡ true
-sheet-within f p s h = rw (sheet-plant f p s) (go (eqb (refusal_in s) 0))
+pub sheet-within : (f : Figures) (p : Plant) (s : List (Finding Float)) → record_within p ≡ true → record_within (sheet_step f p s).plant ≡ true
+sheet-within f p s h = rw (sheet-plant f p s) (go (is_none (refusal_in s)))
   where
     go : (b : Bool) → record_within (cond b (step f p (receiving (counts_of s))).plant p) ≡ true
     go true = step-within f p (receiving (counts_of s)) h
@@ -35,5 +35,5 @@ after-within f p (previews r ∷ es) h = after-within f p es h
 after-within f p (sheets s ∷ es) h = after-within f (sheet_step f p s).plant es (sheet-within f p s h)
 
 pub held_after : (f : Figures) (es : List Entry)
-    → let p = after f fresh_plant es in held_of f p ≡ held_totals 0 (cod_in p) (tkn_in f p) (oxygen_in p) (nitrate_in p)
+    → let p = after f fresh_plant es in held_of f p ≡ Ok (held_totals (cod_in p) (tkn_in f p) (oxygen_in p) (nitrate_in p))
 held_after f es = sym (held-within f (after f fresh_plant es) (after-within f fresh_plant es fresh-within) refl)

@@ -1,16 +1,17 @@
 -- What close gives, settle accepts, and nothing else would do. Assumes nothing.
 --
 --   replaced-within                          a vector with other sin, co and cn, each within its ceiling, is within its ceilings
---   gap_is, gap-sent                         the gap, by the refusal that applies first, or none
---   close-is, close-sent                     the same of close
+--   gap_is, gap-passed                       the gap where its tests pass, and that they pass where there is one
+--   closed_is, close-passed                  the same of close, whose tests pass where there is no gap
 --   Fitting                                  what there is to be closed: the three gaps are none
 --   close-law, none-law, only-law, gap-law   CloseLaw, NoneLaw, OnlyLaw, GapLaw
-use mathlib.Core.Bool.{true}
-use mathlib.Core.List.{List}
+use mathlib.Core.Bool.{Bool, true, false}
+use mathlib.Core.List.{List, ◌∷◌}
 use mathlib.Core.Path.{◌≡◌, refl, sym, ap, subst, ◌∙◌}
 use Prim.Native.Nat.{ℕ, ◌+◌, ◌-◌, ◌≤◌}
 use native.Mathlib.Omega.{arith}
 use borrow.Author.Rules.{rules}
+use lib.Dec.{eqb}
 use borrow.Author.Tests.{eqb-true}
 use Rattle.vectors.specs.declared.figures.Figures.{Figures}
 use Rattle.vectors.specs.declared.units.Milligrams.{Milligrams}
@@ -20,15 +21,17 @@ use Rattle.vectors.specs.Units.{milligrams}
 use Rattle.vectors.proofs.Laws.Columns.{within-column, within-below, below-within, digester-columns}
 use Rattle.plant.specs.declared.record.Plant.{Plant}
 use Rattle.plant.specs.Record.{record_within}
-use Rattle.plant.specs.Answer.{unless, first}
+use Rattle.refusals.specs.declared.Refusal.{Refusal}
+use Rattle.refusals.specs.declared.Refusal.TheVariants.{RecordAbove, ColumnAbove, CodOpen, TknOpen}
+use Rattle.refusals.specs.Tests.{unless, first, decide}
+use Rattle.std.specs.Prelude.{Option, None, Some, Result, Ok, Err}
 use Rattle.plant.specs.Calls.{refusal_for, settling}
-use Rattle.plant.proofs.Laws.Decision.{first-pass, first-none, first-passed, unless-passed, number-case, number-none, number-some}
 use Rattle.plant.proofs.Laws.Calls.{SettlePassed, settle-passed, settle-passes}
 use Rattle.plant.proofs.Laws.Record.{digester-within}
 use Rattle.closing.specs.declared.Closed.{Closed}
 use Rattle.closing.specs.declared.Gaps.{Gaps}
 use Rattle.closing.specs.Closing.{replaced, SameBut, other_tkn, closing_sin, closing_gas, closed_vector}
-use Rattle.closing.specs.Closing.{gaps, no_gap, gap_between, gap_tests, gap_of, close_tests, close_refused, close_taken, close_of}
+use Rattle.closing.specs.Closing.{gaps, no_gap, gap_between, gap_tests, gap_of, close_tests, close_taken, close_by, close_of}
 use Rattle.closing.specs.Closing.{Closes, CloseLaw, NoneLaw, OnlyLaw, GapLaw}
 
 -- ---- vectors
@@ -54,51 +57,59 @@ same-other f e d s =
 
 -- ---- gap and close by their refusals
 
+-- a test that gives nothing has passed
+unless-passed : (b : Bool) (r : Refusal) (rs : List (Option Refusal)) → first (unless b r ∷ rs) ≡ None → (b ≡ true) × (first rs ≡ None)
+unless-passed true r rs e = (refl, e)
+unless-passed false r rs e = absurd cc
+
+-- what is decided as x
+decided : {A : Type 0} (o : Option Refusal) {x y : A} → decide o x ≡ Ok y → (o ≡ None) × (x ≡ y)
+decided None e = (refl, cc)
+decided (Some r) e = absurd cc
+
 module _ (f : Figures) (p : Plant) (d : List ℕ) where
-  pub gap_is : record_within p ≡ true → within digester_ceilings d ≡ true → gap_between f p.digester d ≡ gap_of f p d
+  pub gap_is : record_within p ≡ true → within digester_ceilings d ≡ true → Ok (gap_between f p.digester d) ≡ gap_of f p d
   unfolding gap_of
-  gap_is h k = sym (number-none _ _ _ (sym (first-pass _ 1 _ h (first-pass _ 3 _ k first-none))))
+  gap_is h k = rw (h, k)
 
-  pub gap-sent : (n : ℕ) → (n ≡ 0 → ⊥) → n ≡ first (gap_tests p d) → gaps n 0 0 0 ≡ gap_of f p d
+  pub gap-above : record_within p ≡ false → Err RecordAbove ≡ gap_of f p d
   unfolding gap_of
-  gap-sent n h e = ap (λ (m : ℕ). gaps m 0 0 0) e ∙ sym (number-some _ _ _ (λ z. h (e ∙ z)))
+  gap-above h = rw h
 
-  pub gap-passed : (gap_of f p d).refusal ≡ 0 → (record_within p ≡ true) × (within digester_ceilings d ≡ true)
+  pub gap-column-above : record_within p ≡ true → within digester_ceilings d ≡ false → Err ColumnAbove ≡ gap_of f p d
   unfolding gap_of
-  gap-passed =
-      number-case (λ (g : Gaps). g.refusal ≡ 0 → (record_within p ≡ true) × (within digester_ceilings d ≡ true)) (first (gap_tests p d)) _ _
-      (λ n e. let at_1 = first-passed _ _ n in (unless-passed _ 1 tt at_1.0, unless-passed _ 3 tt (first-passed _ _ at_1.1).0))
-      (λ h e. absurd (h e))
+  gap-column-above h k = rw (h, k)
 
-  pub close-is : first (close_tests (gap_of f p d)) ≡ 0 → close_taken f p.digester d ≡ close_of f p d
+  pub gap-passed : (g : Gaps) → gap_of f p d ≡ Ok g → (record_within p ≡ true) × (within digester_ceilings d ≡ true)
+  unfolding gap_of
+  gap-passed g e =
+      let at_1 = unless-passed (record_within p) RecordAbove _ (decided (first (gap_tests p d)) e).0 in
+      (at_1.0, (unless-passed (within digester_ceilings d) ColumnAbove _ at_1.1).0)
+
+  -- by the gap
+  pub close_as : (g : Result Gaps Refusal) → g ≡ gap_of f p d → close_by g (close_taken f p.digester d) ≡ close_of f p d
   unfolding close_of
-  close-is e = sym (number-none _ _ _ e)
-
-  pub close-sent : (n : ℕ) → (n ≡ 0 → ⊥) → n ≡ first (close_tests (gap_of f p d)) → close_refused n d ≡ close_of f p d
-  unfolding close_of
-  close-sent n h e = ap (λ (m : ℕ). close_refused m d) e ∙ sym (number-some _ _ _ (λ z. h (e ∙ z)))
+  close_as g e = ap (λ (h : Result Gaps Refusal). close_by h (close_taken f p.digester d)) e
 
   -- no test of close applies where there is no gap
-  no_test : gap_of f p d ≡ no_gap → first (close_tests (gap_of f p d)) ≡ 0
-  unfolding first unless
-  no_test e = ap (λ (g : Gaps). first (close_tests g)) e
+  pub closed_is : gap_of f p d ≡ Ok no_gap → close_of f p d ≡ Ok (close_taken f p.digester d)
+  closed_is e = sym (close_as (Ok no_gap) (sym e))
 
-  gap_none : first (close_tests (gap_of f p d)) ≡ 0 → gap_of f p d ≡ no_gap
-  gap_none e =
-      let at-0 = first-passed _ _ e in
-      let at-3 = first-passed _ _ at-0.1 in
-      let at_7 = first-passed _ _ at-3.1 in
-      let sin = eqb-true _ _ (unless-passed _ 3 tt at-3.0) in
-      let cod = eqb-true _ _ (unless-passed _ 7 tt at_7.0) in
-      let tkn = eqb-true _ _ (unless-passed _ 8 tt (first-passed _ _ at_7.1).0) in
-      (λ i. gaps (at-0.0 i) (cod i) (tkn i) (sin i))
-
-  accepted-test : (close_of f p d).refusal ≡ 0 → first (close_tests (gap_of f p d)) ≡ 0
+  close-passed : (c : Closed) → close_of f p d ≡ Ok c → (gap_of f p d ≡ Ok no_gap) × (close_taken f p.digester d ≡ c)
   unfolding close_of
-  accepted-test =
-      number-case (λ (c : Closed). c.refusal ≡ 0 → first (close_tests (gap_of f p d)) ≡ 0) (first (close_tests (gap_of f p d))) _ _
-      (λ n e. n)
-      (λ h e. e)
+  close-passed c = go (gap_of f p d)
+    where
+      go : (g : Result Gaps Refusal) → close_by g (close_taken f p.digester d) ≡ Ok c
+          → (g ≡ Ok no_gap) × (close_taken f p.digester d ≡ c)
+      go (Err r) e = absurd cc
+      go (Ok g) e =
+          let q = decided (first (close_tests g)) e in
+          let at-3 = unless-passed (eqb g.sin.0 0) ColumnAbove _ q.0 in
+          let at_7 = unless-passed (eqb g.cod.0 0) CodOpen _ at-3.1 in
+          let sin = eqb-true _ _ at-3.0 in
+          let cod = eqb-true _ _ at_7.0 in
+          let tkn = eqb-true _ _ (unless-passed (eqb g.tkn.0 0) TknOpen _ at_7.1).0 in
+          (λ i. Ok (gaps (cod i) (tkn i) (sin i)), q.1)
 
 -- ---- no gap, as inequalities
 
@@ -109,11 +120,12 @@ record Fitting (f : Figures) (p : Plant) (d : List ℕ) : Type 0 where
   cod : digester_cod d ≤ digester_cod p.digester
   tkn : other_tkn f d ≤ digester_tkn f p.digester
 
-fitting : (f : Figures) (p : Plant) (d : List ℕ) → gap_of f p d ≡ no_gap → Fitting f p d
+fitting : (f : Figures) (p : Plant) (d : List ℕ) → gap_of f p d ≡ Ok no_gap → Fitting f p d
 unfolding gap_between
 fitting f p d e =
-    let passed = gap-passed f p d (ap (λ (g : Gaps). g.refusal) e) in
-    let g : gap_between f p.digester d ≡ no_gap = gap_is f p d passed.0 passed.1 ∙ e in
+    let passed = gap-passed f p d no_gap e in
+    let q : ◌≡◌ {A = Result Gaps Refusal} (Ok (gap_between f p.digester d)) (Ok no_gap) = gap_is f p d passed.0 passed.1 ∙ e in
+    let g : gap_between f p.digester d ≡ no_gap = cc in
     record {
       held = passed.0;
       proposed = passed.1;
@@ -122,21 +134,18 @@ fitting f p d e =
       tkn = omega (arith, ap (λ (x : Gaps). x.tkn.0) g);
     }
 
-fits : (f : Figures) (p : Plant) (d : List ℕ) → Fitting f p d → gap_of f p d ≡ no_gap
+fits : (f : Figures) (p : Plant) (d : List ℕ) → Fitting f p d → gap_of f p d ≡ Ok no_gap
 unfolding gap_between
 fits f p d t =
     let cod : digester_cod d - digester_cod p.digester ≡ 0 = omega (arith, t.cod) in
     let tkn : other_tkn f d - digester_tkn f p.digester ≡ 0 = omega (arith, t.tkn) in
     let sin : closing_sin f p.digester d - tick_ceiling ≡ 0 = omega (arith, t.sin) in
-    sym (gap_is f p d t.held t.proposed) ∙ (λ i. gaps 0 (cod i) (tkn i) (sin i))
+    sym (gap_is f p d t.held t.proposed) ∙ (λ i. Ok (gaps (cod i) (tkn i) (sin i)))
 
 -- ---- the laws
 
 pub gap-law : GapLaw
-gap-law f p d = record {
-  none = λ e. gap_none f p d (accepted-test f p d e);
-  closes = λ e. ap (λ (c : Closed). c.refusal) (sym (close-is f p d (no_test f p d e)));
-}
+gap-law f p d = record { none = λ c e. (close-passed f p d c e).0; closes = closed_is f p d }
 
 -- settle's tests on what closes
 settles : (f : Figures) (p : Plant) (d : List ℕ) → Fitting f p d
@@ -151,9 +160,9 @@ settles f p d t =
     settle-passes f p _ v (record { held = t.held; proposed = fitted; cod = cod; tkn = tkn; oxygen = refl; nitrate = refl })
 
 pub close-law : CloseLaw
-close-law f p d e =
-    let n = accepted-test f p d e in
-    subst (Closes f p d) (close-is f p d n) (record { settles = settles f p d (fitting f p d (gap_none f p d n)); keeps = refl })
+close-law f p d c e =
+    let q = close-passed f p d c e in
+    subst (Closes f p d) q.1 (record { settles = settles f p d (fitting f p d q.0); keeps = refl })
 
 -- COD and TKN that close leave no gap
 by-gas : {old new new' : ℕ} (gas : ℕ) → new ≡ new' → old ≡ new + gas → new' ≤ old
@@ -179,8 +188,10 @@ settled-fits f p d h gas e same s =
     }
 
 pub none-law : NoneLaw
-none-law f p d held h refused gas e same n =
-    refused ((gap-law f p d).closes (fits f p d (settled-fits f p d h gas e same (settle-passed f p gas e n))))
+none-law f p d held h r refused gas e same n =
+    let q : close_of f p d ≡ Ok (close_taken f p.digester d) =
+    closed_is f p d (fits f p d (settled-fits f p d h gas e same (settle-passed f p gas e n))) in
+    absurd (let w : ◌≡◌ {A = Result Closed Refusal} (Err r) (Ok (close_taken f p.digester d)) = sym refused ∙ q in cc)
 
 pub only-law : OnlyLaw
 only-law f p d h gas e long same n =
@@ -193,4 +204,4 @@ only-law f p d h gas e long same n =
     ap (λ (l : List ℕ). replaced l (digester e).sin (digester e).co (digester e).cn) (sym same) ∙ digester-columns e long
     in
     let v : closed_vector f old d ≡ e = (λ i. replaced d (sin i) (s.oxygen i) (s.nitrate i)) ∙ is in
-    sym (close-is f p d (no_test f p d (fits f p d t))) ∙ (λ i. record { refusal = 0; gas = milligrams (gone i); vector = v i })
+    closed_is f p d (fits f p d t) ∙ (λ i. Ok (record { gas = milligrams (gone i); vector = v i }))

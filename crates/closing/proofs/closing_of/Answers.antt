@@ -1,15 +1,15 @@
 -- `closing::closing_of` meets its contract. Assumes nothing.
-use Rattle.vectors.specs.Totals.{digester_oxygen, digester_nitrate}
+use mathlib.Core.Path.{◌≡◌}
+use native.Mathlib.Omega.{arith}
+use Rattle.vectors.specs.Figures.{house}
 use Rattle.vectors.specs.Units.{milligrams}
-use Rattle.vectors.proofs.Laws.Units.{minus}
-use mathlib.Core.Path.{◌∙◌}
-use Rattle.closing.specs.Closing.{replaced}
+use Rattle.closing.specs.Closing.{closing_gas, closing_sin, closed_vector}
 use Rattle.closing.proofs.closing_of.Goals as goal
 
 pub returns : goal.returns
 returns c =
     let a = c.args in
-    let gas = minus c.less-gas.ensures.0 c.digester_cod.ensures.0 c.digester_cod-2.ensures.0 in
-    let sin = minus c.less-sin.ensures.0 c.digester_tkn-tkn.ensures.0 c.other_tkn.ensures in
-    let vector = c.with_closing-vector.ensures ∙ (λ i. replaced a.d (sin i) (digester_oxygen a.old) (digester_nitrate a.old)) in
-    (λ i. record { refusal = 0; gas = milligrams (gas i); vector = vector i })
+    let gas : c.less-gas.result.0 ≡ closing_gas a.old a.d = omega arith in
+    let sin : c.less-sin.result.0 ≡ closing_sin house a.old a.d = omega arith in
+    let vector : c.with_closing-vector.result ≡ closed_vector house a.old a.d = cc in
+    (λ i. record { gas = milligrams (gas i); vector = vector i })

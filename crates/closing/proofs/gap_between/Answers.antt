@@ -1,16 +1,18 @@
 -- `closing::gap_between` meets its contract. Assumes nothing.
-use Rattle.vectors.proofs.Laws.Units.{minus}
-use mathlib.Core.Path.{refl}
-use Rattle.closing.specs.Closing.{gaps, gap_between}
+use mathlib.Core.Path.{◌≡◌}
+use Prim.Native.Nat.{◌-◌}
+use native.Mathlib.Omega.{arith}
+use Rattle.vectors.specs.Columns.{tick_ceiling}
+use Rattle.vectors.specs.Figures.{house}
+use Rattle.vectors.specs.Totals.{digester_cod, digester_tkn}
+use Rattle.closing.specs.Closing.{gaps, gap_between, other_tkn, closing_sin}
 use Rattle.closing.proofs.gap_between.Goals as goal
 
 pub returns : goal.returns
 unfolding gap_between
 returns c =
-    let old-cod = c.digester_cod-cod.ensures.0 in
-    let tkn = c.digester_tkn-tkn.ensures.0 in
-    let others = c.other_tkn-others.ensures in
-    let cod-gap = minus c.less.ensures.0 c.digester_cod-proposed.ensures.0 old-cod in
-    let tkn-gap = minus c.less-2.ensures.0 others tkn in
-    let sin-gap = minus c.less-4.ensures.0 (minus c.less-3.ensures.0 tkn others) refl in
-    (λ i. gaps 0 (cod-gap i) (tkn-gap i) (sin-gap i))
+    let a = c.args in
+    let cod : c.less.result.0 ≡ digester_cod a.d - digester_cod a.old = omega arith in
+    let tkn : c.less-2.result.0 ≡ other_tkn house a.d - digester_tkn house a.old = omega arith in
+    let sin : c.less-4.result.0 ≡ closing_sin house a.old a.d - tick_ceiling = omega arith in
+    (λ i. gaps (cod i) (tkn i) (sin i))

@@ -7,5 +7,5 @@ use Rattle.closing.proofs.with_closing.Goals as goal
 pub returns : goal.returns
 returns c =
     let a = c.args in
-    c.digester_array.ensures
-    ∙ ap (λ (v : Digester). digester_columns (with_closing v a.sin.0 a.co.0 a.cn.0)) c.digester_of-v.ensures
+    c.from-2.ensures
+    ∙ ap (λ (v : Digester). digester_columns (with_closing v a.sin.0 a.co.0 a.cn.0)) c.from.ensures

@@ -1,63 +1,36 @@
 -- Laws of a call's line in a buffer. Assumes nothing.
 --
---   fields-then, fields-all      one column more, and all of them
 --   settle-parts                 a settle's number and its columns
 --   call-as                      the text of an equal call
---   entry-call, entry-preview    a call by itself, and a preview of it
+--   entry-preview                a preview of a call
 --   line_refused, line-written   the promise of the call in a short buffer, and in any other
---   line-filled                  the part that the line fills
-use mathlib.Core.Bool.{Bool, true, false}
-use mathlib.Core.List.{List, [], ◌∷◌, ◌++◌, append_assoc, append-nil}
-use mathlib.Core.Path.{◌≡◌, sym, ap, ◌∙◌}
-use Prim.Native.Nat.{ℕ, zero, suc, ◌+◌, ◌≤◌, ◌<◌}
-use native.Mathlib.Nat.{add-zero, zero-add}
-use native.Mathlib.Numerals.{add-one}
-use native.Mathlib.Omega.{arith}
-use lib.ListN.{length, take, drop, get_or}
-use lib.Seq.{take_all, take_at}
+--   line-count, line-filled      how many bytes the line has, and the part that it fills
+use mathlib.Core.Bool.{Bool, true, false, cond}
+use mathlib.Core.List.{List, [], ◌++◌, append_assoc}
+use mathlib.Core.Path.{◌≡◌, refl, sym, ap, ◌∙◌}
+use Prim.Native.Nat.{ℕ, ◌+◌, ◌≤◌, ◌<◌}
+use native.Mathlib.Nat.{zero-add}
+use lib.Dec.{ltb}
+use lib.ListN.{length, take, drop}
+use lib.Seq.{take_at}
 use borrow.Author.Tests.{lt-ltb, le-ltb}
+use Rattle.std.specs.Prelude.{Result, Ok, Err}
+use Rattle.std.specs.Result.{result_unwrap_or}
+use Rattle.refusals.specs.declared.Refusal.{Refusal}
+use Rattle.refusals.specs.declared.Refusal.TheVariants.{ShortBuffer}
 use Rattle.plant.specs.declared.answer.Call.{Call}
 use Rattle.plant.specs.declared.answer.Request.{Request}
 use Rattle.reading.specs.declared.names.Vector.TheVariants.{Digester}
 use Rattle.reading.specs.Text.{ascii}
 use Rattle.reading.specs.Names.{names_of}
-use Rattle.writing.specs.Buffer.{Put}
+use Rattle.writing.specs.declared.page.Page.{Page}
+use Rattle.writing.specs.Page.{Wrote}
 use Rattle.writing.specs.Answer.{labelled}
-use Rattle.writing.proofs.Laws.Buffer.{put_first, put_then, put_same}
-use Rattle.composing.specs.declared.line.Written.{Written}
-use Rattle.composing.specs.Line.{field_text, fields_from, fields_text, settle_text, call_text, entry_text}
+use Rattle.writing.specs.Buffer.{put_at}
+use Rattle.writing.proofs.Laws.Buffer.{put_first}
+use Rattle.writing.proofs.Laws.Page.{wrote_same}
+use Rattle.composing.specs.Line.{fields_text, settle_text, call_text, entry_text}
 use Rattle.composing.specs.Written.{line_text, written_text, LineWritten}
-
--- ---- the first columns
-
-fields-last : (k c : ℕ) (names : List (List ℕ)) (v : List ℕ) → k < length names
-    → fields_from c (take (suc k) names) v ≡ fields_from c (take k names) v ++ field_text (get_or names k []) (get_or v (c + k) 0)
-unfolding fields_from
-fields-last k c [] v h = absurd (omega arith)
-fields-last zero c (n ∷ ns) v h = append-nil (field_text n (get_or v c 0)) ∙ ap (λ (j : ℕ). field_text n (get_or v j 0)) (sym (add-zero c))
-fields-last (suc k) c (n ∷ ns) v h =
-    ap (λ (s : List ℕ). field_text n (get_or v c 0) ++ s)
-    (fields-last k (c + 1) ns v (omega arith)
-    ∙ ap (λ (j : ℕ). fields_from (c + 1) (take k ns) v ++ field_text (get_or ns k []) (get_or v j 0)) place)
-    ∙ sym (append_assoc (field_text n (get_or v c 0)) (fields_from (c + 1) (take k ns) v) (field_text (get_or ns k []) (get_or v (c + suc k) 0)))
-  where
-    place : c + 1 + k ≡ c + suc k
-    place = omega arith
-
--- one column more
-pub fields-then : {d b e : List ℕ} {at i r : ℕ} (names : List (List ℕ)) (c : ℕ) (v : List ℕ) → c < length names
-    → Put d at (fields_text (take c names) v) i b → Put b i (field_text (get_or names c []) (get_or v c 0)) r e → r ≤ length d
-    → Put d at (fields_text (take (c + 1) names) v) r e
-fields-then names c v l p q h =
-    let more : fields_text (take c names) v ++ field_text (get_or names c []) (get_or v c 0) ≡ fields_text (take (suc c) names) v =
-    ap (λ (j : ℕ). fields_text (take c names) v ++ field_text (get_or names c []) (get_or v j 0)) (sym (zero-add c))
-    ∙ sym (fields-last c 0 names v l) in
-    put_same (more ∙ ap (λ (j : ℕ). fields_text (take j names) v) (sym (add-one c))) (put_then p q h)
-
--- all of them
-pub fields-all : {d e : List ℕ} {at r : ℕ} (names : List (List ℕ)) (c : ℕ) (v : List ℕ) → length names ≤ c
-    → Put d at (fields_text (take c names) v) r e → Put d at (fields_text names v) r e
-fields-all names c v h p = put_same (ap (λ (ns : List (List ℕ)). fields_text ns v) (take_all c names h)) p
 
 -- ---- the parts of a settle, one behind the other
 
@@ -65,47 +38,54 @@ pub settle-parts : (g : ℕ) (d : List ℕ)
     → labelled (ascii "(settle ") g ++ (fields_text (names_of Digester) d ++ ascii ")") ≡ settle_text g d
 settle-parts g d = sym (append_assoc (labelled (ascii "(settle ") g) (fields_text (names_of Digester) d) (ascii ")"))
 
--- ---- a call, or a preview of it
+-- ---- a call, and a preview of it
 
-pub call-as : {d e : List ℕ} {at r : ℕ} (v w : List ℕ) {x y : Call} → x ≡ y
-    → Put d at (call_text y v w) r e × (r ≤ 1000) → Put d at (call_text x v w) r e × (r ≤ 1000)
-call-as v w q p = (put_same (ap (λ (z : Call). call_text z v w) (sym q)) p.0, p.1)
+pub call-as : {p q : Page} (v w : List ℕ) {x y : Call} → x ≡ y
+    → Wrote p (call_text y v w) q × (q.at ≤ p.at + 1000) → Wrote p (call_text x v w) q × (q.at ≤ p.at + 1000)
+call-as v w q p = (wrote_same (ap (λ (z : Call). call_text z v w) (sym q)) p.0, p.1)
 
-module _ {b : Bool} (r : Request) where
-  pub entry-call : b ≡ false → call_text r.call r.sludge r.digester ≡ entry_text b r
-  entry-call e = rw e
-
-  pub entry-preview : b ≡ true
-      → ascii "(preview " ++ (call_text r.call r.sludge r.digester ++ ascii ")") ≡ entry_text b r
-  entry-preview e = rw e
+pub entry-preview : {b : Bool} (r : Request) → b ≡ true
+    → ascii "(preview " ++ (call_text r.call r.sludge r.digester ++ ascii ")") ≡ entry_text b r
+entry-preview r e = rw e
 
 -- ---- the line in a buffer
 
 module _ (d : List ℕ) (b : Bool) (r : Request) where
-  pub line_refused : length d < 1025 → LineWritten d b r (record { refusal = 12; length = 0 }) d
+  pub line_refused : length d < 1025 → LineWritten d b r (Err ShortBuffer) d
   unfolding written_text
   line_refused h =
       let short = lt-ltb (length d) 1025 h in
       let none : [] ≡ written_text (length d) b r = rw short in
       record {
-        refusal = rw short;
-        count = ap length none;
+        given = rw short;
         buffer = ap (λ (s : List ℕ). s ++ drop (length s) d) none;
       }
 
-  pub line-written : {n : ℕ} {e : List ℕ} → 1025 ≤ length d → Put d 0 (line_text b r) n e
-      → LineWritten d b r (record { refusal = 0; length = n }) e
+  -- how many bytes the line has, none under the refusal
+  pub line-count : {w : Result ℕ Refusal} {e : List ℕ} → LineWritten d b r w e → result_unwrap_or w 0 ≡ length (written_text (length d) b r)
   unfolding written_text
-  line-written {n} {e} h p =
-      let room = le-ltb (length d) 1025 h in
-      let all : line_text b r ≡ written_text (length d) b r = rw room in
-      record {
-        refusal = rw room;
-        count = p.next ∙ zero-add (length (line_text b r)) ∙ ap length all;
-        buffer = p.bytes ∙ put_first d (line_text b r) ∙ ap (λ (s : List ℕ). s ++ drop (length s) d) all;
-      }
+  line-count p = ap (λ (x : Result ℕ Refusal). result_unwrap_or x 0) p.given ∙ go (ltb (length d) 1025)
+    where
+      go : (t : Bool) → result_unwrap_or (cond t (Err ShortBuffer) (Ok (length (line_text b r)))) 0 ≡ length (cond t [] (line_text b r))
+      go true = refl
+      go false = refl
 
-  pub line-filled : {w : Written} {e : List ℕ} → LineWritten d b r w e → take w.length e ≡ written_text (length d) b r
+  pub line-filled : {w : Result ℕ Refusal} {e : List ℕ} → LineWritten d b r w e
+      → take (result_unwrap_or w 0) e ≡ written_text (length d) b r
   line-filled {w} p =
       let s = written_text (length d) b r in
-      ap (take w.length) p.buffer ∙ take_at s (drop (length s) d) w.length (sym p.count)
+      ap (take (result_unwrap_or w 0)) p.buffer ∙ take_at s (drop (length s) d) (result_unwrap_or w 0) (sym (line-count p))
+
+-- on a page over a buffer of 1,025 bytes or more; e is what the buffer holds when the page is given up
+pub line-written : {p q : Page} {e : List ℕ} (b : Bool) (r : Request) → e ≡ q.bytes.now → 1025 ≤ length p.bytes.now → p.at ≡ 0
+    → Wrote p (line_text b r) q → LineWritten p.bytes.now b r (Ok q.at) e
+unfolding written_text
+line-written {p} {q} {e} b r last h start w =
+    let d = p.bytes.now in
+    let room = le-ltb (length d) 1025 h in
+    let all : line_text b r ≡ written_text (length d) b r = rw room in
+    record {
+      given = rw room (ap Ok (w.put.next ∙ ap (λ (j : ℕ). j + length (line_text b r)) start ∙ zero-add (length (line_text b r))));
+      buffer = last ∙ w.put.bytes ∙ ap (λ (j : ℕ). put_at d j (line_text b r)) start ∙ put_first d (line_text b r)
+          ∙ ap (λ (s : List ℕ). s ++ drop (length s) d) all;
+    }

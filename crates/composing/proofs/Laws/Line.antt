@@ -7,7 +7,7 @@
 --   call-read, entry-read                      TextReadLaw
 --   asked-gives, entry-gives                   TextGivesLaw
 --   call-no-zero, entry-no-zero                TextNoZeroLaw
---   fields-one, call-one, entry-one            TextLineLaw
+--   call-one, entry-one                        TextLineLaw
 use mathlib.Core.Bool.{Bool, true, false, cond}
 use mathlib.Core.List.{List, [], ◌∷◌, ◌++◌, append-nil}
 use mathlib.Core.Path.{◌≡◌, refl, sym, ap, ap₂, ◌∙◌}
@@ -21,6 +21,7 @@ use Rattle.vectors.specs.Columns.{asm1, asm1_columns}
 use Rattle.vectors.specs.Units.{milligrams}
 use Rattle.vectors.proofs.Laws.Columns.{both_true}
 use Rattle.vectors.specs.declared.figures.Figures.{Figures}
+use Rattle.refusals.specs.declared.Refusal.TheVariants.{ShortBuffer}
 use Rattle.plant.specs.declared.record.Plant.{Plant}
 use Rattle.plant.specs.declared.answer.Call.{Call}
 use Rattle.plant.specs.declared.answer.Call.TheVariants.{Receive, Feed, Settle, Return, Release, Recycle}
@@ -28,26 +29,25 @@ use Rattle.plant.specs.Answer.{refused}
 use Rattle.plant.specs.declared.answer.Request.{Request}
 use Rattle.plant.specs.declared.answer.Outcome.{Outcome}
 use Rattle.plant.specs.Calls.{step_by, step, preview_of, outcome_by, request, receiving, settling}
-use Rattle.reading.specs.declared.number.Number.TheVariants.{Value}
+use Rattle.std.proofs.Common.{Some}
 use Rattle.reading.specs.declared.names.Vector.TheVariants.{Sludge, Digester}
 use Rattle.reading.specs.declared.fields.Fields.{Fields}
-use Rattle.reading.specs.declared.form.Form.TheVariants.{Asked}
 use Rattle.reading.specs.Text.{ascii, same_bytes, look_up, up_to, behind, one_line}
 use Rattle.reading.specs.Number.{largest, decimal, read_number}
 use Rattle.reading.specs.Names.{names_of}
-use Rattle.reading.specs.Form.{line_of, no_form, read_fields, settle_line, number_line, settle_part, settle_by, form_of, form_by}
+use Rattle.reading.specs.Form.{line_of, read_fields, receive_line, settle_line, number_line, settle_part, settle_by, form_of, form_by}
 use Rattle.reading.specs.Line.{inner, call_by, is_preview, form_in, preview_line, read_line, bracketed, preview_text, form_passes, call_passes}
 use Rattle.reading.proofs.Laws.Line.{call-form, preview-word, line-call, brackets-around, form-around, preview-around, preview-form-law}
-use Rattle.writing.specs.Answer.{labelled, column_text}
+use Rattle.writing.specs.Answer.{labelled, column_text, column_or_none, columns_from}
 use Rattle.writing.proofs.Laws.Decimal.{decimal-length}
-use Rattle.writing.proofs.Laws.OneLine.{One, one-append, one-labelled, one-column, all_one}
+use Rattle.writing.proofs.Laws.OneLine.{One, one-append, one-labelled, one-columns, all_one}
 use Rattle.lines.specs.Asking.{form_outcome, line_outcome}
-use Rattle.composing.specs.Line.{field_text, entry_text, fields_from, fields_text, call_text, asked_by}
+use Rattle.composing.specs.Line.{entry_text, fields_from, fields_text, call_text, asked_by}
 use Rattle.composing.specs.Line.{Columns, own_number, TextReadLaw, TextGivesLaw}
 use Rattle.composing.specs.Line.{fields_no_zero, TextNoZeroLaw, TextLengthLaw, TextLineLaw}
 use Rattle.composing.proofs.Laws.Number.{decimal-read}
 use Rattle.composing.proofs.Laws.Read.{plain-sludge, plain-digester, clear, all_clear, clear-lacks, up_to-past, lacks-decimal}
-use Rattle.composing.proofs.Laws.Read.{Filled, fields_read, fields-no-zero, fields-start}
+use Rattle.composing.proofs.Laws.Read.{Holds, fields_read, fields-no-zero, fields-start}
 
 -- ---- what stands inside the brackets
 
@@ -70,7 +70,7 @@ column-length name n h =
     )
 
 fields-length : (c : ℕ) (ns : List (List ℕ)) (v : List ℕ) → all_clear ns ≡ true → length (fields_from c ns v) ≤ 28 * length ns
-unfolding fields_from field_text all_clear
+unfolding columns_from column_or_none all_clear
 fields-length c [] v e = omega arith
 fields-length c (x ∷ ns) v e =
     let t = both_true (clear x) (all_clear ns) e in
@@ -137,13 +137,13 @@ firsts-is zero (k ∷ v) h = absurd (omega arith)
 firsts-is (suc n) [] h = absurd (omega arith)
 firsts-is (suc n) (k ∷ v) h = ap (λ (l : List ℕ). k ∷ l) (firsts-is n v (omega arith))
 
-sludge-is : (v : List ℕ) (f : Fields) → length v ≡ 13 → Filled v f → asm1_columns (asm1 f.columns) ≡ v
-sludge-is v f h filled =
-    let same : firsts 13 (λ j. get_or f.columns j 0) ≡ firsts 13 (λ j. get_or v j 0) = (λ i. firsts 13 (λ j. filled.all j i)) in
+sludge-is : (v : List ℕ) (f : Fields) → length v ≡ 13 → Holds v f → asm1_columns (asm1 f.columns) ≡ v
+sludge-is v f h holds =
+    let same : firsts 13 (λ j. get_or f.columns j 0) ≡ firsts 13 (λ j. get_or v j 0) = (λ i. firsts 13 (λ j. holds.all j i)) in
     same ∙ firsts-is 13 v h
 
-digester-is : (d : List ℕ) (f : Fields) → length d ≡ 26 → Filled d f → f.columns ≡ d
-digester-is d f h filled = ext_get_or 0 f.columns d (filled.size ∙ sym h) (λ j l. filled.all j)
+digester-is : (d : List ℕ) (f : Fields) → length d ≡ 26 → Holds d f → f.columns ≡ d
+digester-is d f h holds = ext_get_or 0 f.columns d (holds.size ∙ sym h) (λ j l. holds.all j)
 
 -- ---- a text in brackets
 
@@ -182,10 +182,9 @@ unfolding form_of same_bytes
 receive-read v h =
     let x = fields_text (names_of Sludge) v in
     let filled = fields_read (names_of Sludge) plain-sludge v (omega (arith, h.0)) h.1 in
-    let f = read_fields (names_of Sludge) x in
     ap (λ (w : List ℕ). form_of read_fields w (ascii "receive" ++ x)) (word-receive x (fields-start 0 (names_of Sludge) v))
-    ∙ ap (λ (b : Bool). cond b (line_of (Asked Receive false) (asm1_columns (asm1 f.columns)) (replicate 26 0)) no_form) filled.ok
-    ∙ ap (λ (w : List ℕ). line_of (Asked Receive false) w (replicate 26 0)) (sludge-is v f h.0 filled)
+    ∙ ap receive_line filled.read
+    ∙ ap (λ (w : List ℕ). line_of Receive false w (replicate 26 0)) (sludge-is v filled.fields h.0 filled.holds)
 
 settle_read : (g : ℕ) (d : List ℕ) → g ≤ largest → Columns 26 d
     → form_by read_fields (settle_inner g d) ≡ asked_by false (Settle (milligrams g)) [] d
@@ -197,11 +196,11 @@ settle_read g d l h =
     let f = read_fields (names_of Digester) x in
     ap₂ (λ (a b : List ℕ). settle_line (read_number a) (read_fields (names_of Digester) b)) (settle-number g x start) (settle-rest g x start)
     ∙ ap (λ n. settle_line n f) (decimal-read g l)
-    ∙ ap (λ (b : Bool). cond b (line_of (Asked (Settle (milligrams g)) false) (replicate 13 0) f.columns) no_form) filled.ok
-    ∙ ap (λ (w : List ℕ). line_of (Asked (Settle (milligrams g)) false) (replicate 13 0) w) (digester-is d f h.0 filled)
+    ∙ ap (settle_line (Some g)) filled.read
+    ∙ ap (λ (w : List ℕ). line_of (Settle (milligrams g)) false (replicate 13 0) w) (digester-is d filled.fields h.0 filled.holds)
 
 -- the word of a call with its number alone
-number_read : (w : List ℕ) (k : ℕ) → k ≤ largest → number_line w (read_number (decimal k)) ≡ number_line w (Value k)
+number_read : (w : List ℕ) (k : ℕ) → k ≤ largest → number_line w (read_number (decimal k)) ≡ number_line w (Some k)
 number_read w k h = ap (number_line w) (decimal-read k h)
 
 call-read : (call : Call) (v d : List ℕ) → own_number call ≤ largest → Columns 13 v → Columns 26 d
@@ -257,7 +256,7 @@ asked-gives f p b (Recycle k) v d = entry-same f p b (request (Recycle k)) _ ref
 pub entry-gives : TextGivesLaw
 unfolding line_outcome
 entry-gives f m p b r h l =
-    ap (λ (t : Bool). cond t (refused p 12) (form_outcome f p (read_line (entry_text b r)))) (le-ltb m 512 l)
+    ap (λ (t : Bool). cond t (refused p ShortBuffer) (form_outcome f p (read_line (entry_text b r)))) (le-ltb m 512 l)
     ∙ ap (form_outcome f p) (entry-read b r h)
     ∙ asked-gives f p b r.call r.sludge r.digester
 
@@ -315,17 +314,6 @@ entry-no-zero false r h =
 
 -- ---- one line
 
-fields-one : (c : ℕ) (ns : List (List ℕ)) (v : List ℕ) → all_one ns ≡ true → One (fields_from c ns v)
-unfolding fields_from field_text one_line all_one
-fields-one c [] v e = refl
-fields-one c (x ∷ ns) v e =
-    let t = both_true (one_line x) (all_one ns) e in
-    go (eqb (get_or v c 0) 0) t.0 (fields-one (c + 1) ns v t.1)
-  where
-    go : (b : Bool) → One x → One (fields_from (c + 1) ns v) → One (cond b [] (column_text x (get_or v c 0)) ++ fields_from (c + 1) ns v)
-    go true p q = q
-    go false p q = one-append (column_text x (get_or v c 0)) (fields_from (c + 1) ns v) (one-column x (get_or v c 0) p) q
-
 one-bracketed : (t : List ℕ) → One t → One (bracketed t)
 unfolding one_line
 one-bracketed t h = one-append (40 ∷ t) (41 ∷ []) h refl
@@ -334,13 +322,13 @@ call-one : (call : Call) (v d : List ℕ) → One (call_text call v d)
 unfolding one_line all_one
 call-one Receive v d =
     one-bracketed (receive_inner v)
-    (one-append (ascii "receive") (fields_text (names_of Sludge) v) refl (fields-one 0 (names_of Sludge) v refl))
+    (one-append (ascii "receive") (fields_text (names_of Sludge) v) refl (one-columns false 0 (names_of Sludge) v refl))
 call-one (Feed k) v d = one-bracketed (labelled (ascii "feed ") k) (one-labelled (ascii "feed ") k refl)
 call-one (Settle g) v d =
     let number = labelled (ascii "settle ") g.0 in
     one-bracketed (settle_inner g.0 d)
     (one-append number (fields_text (names_of Digester) d) (one-labelled (ascii "settle ") g.0 refl)
-    (fields-one 0 (names_of Digester) d refl))
+    (one-columns false 0 (names_of Digester) d refl))
 call-one (Return k) v d = one-bracketed (labelled (ascii "return ") k) (one-labelled (ascii "return ") k refl)
 call-one (Release k) v d = one-bracketed (labelled (ascii "release ") k) (one-labelled (ascii "release ") k refl)
 call-one (Recycle k) v d = one-bracketed (labelled (ascii "recycle ") k) (one-labelled (ascii "recycle ") k refl)

@@ -19,7 +19,7 @@ use lib.ListN.{length}
 use borrow.Author.Tests.{leb-true, le-leb, eqb-true, eqb-false, not-true}
 use Rattle.io.specs.Digits.{last_digits, hex_digit_ascii, IsDigitCount}
 use Rattle.vectors.proofs.Laws.Columns.{both_true}
-use Rattle.reading.specs.declared.number.Number.TheVariants.{Value, NotANumber}
+use Rattle.std.proofs.Common.{Some, None}
 use Rattle.reading.specs.Number.{is_digit, all_digits, value_after, leads, largest, read_after, read_number, places_from, decimal}
 use Rattle.writing.proofs.Laws.Decimal.{decimal-is, fewest-le, digits-length, decimal-digits, decimal-value, glyph-is}
 
@@ -127,7 +127,7 @@ decimal-least n h = (d.1, value-below (decimal n) d.0, least)
 
 -- ---- a number's digits are read as the number
 
-pub decimal-read : (n : ℕ) → n ≤ largest → read_number (decimal n) ≡ Value n
+pub decimal-read : (n : ℕ) → n ≤ largest → read_number (decimal n) ≡ Some n
 unfolding read_number read_after
 decimal-read n h =
     let d = (decimal-digits n).0 in
@@ -163,17 +163,17 @@ value-digits j n (b ∷ s) e =
         let r : m % 10 ≡ b - 48 = omega arith in
         glyph-is (m % 10) (omega arith) ∙ omega arith
 
-not-value : {n : ℕ} → NotANumber ≡ Value n → ⊥
+not-value : {n : ℕ} → None ≡ Some n → ⊥
 not-value e = let z : ◌≡◌ {A = ℕ} 0 1 = cc in omega arith
 
 -- what is read as a number
-number_is : (s : List ℕ) (n : ℕ) → read_number s ≡ Value n
+number_is : (s : List ℕ) (n : ℕ) → read_number s ≡ Some n
     → (leads s ≡ true) × (all_digits s ≡ true) × (value_after 0 s ≡ n) × (n ≤ largest)
 unfolding read_number read_after
 number_is s n e = go (leads s) (all_digits s && leb (value_after 0 s) largest) refl refl e
   where
     go : (a b : Bool) → leads s ≡ a → (all_digits s && leb (value_after 0 s) largest) ≡ b
-        → cond a (cond b (Value (value_after 0 s)) NotANumber) NotANumber ≡ Value n
+        → cond a (cond b (Some (value_after 0 s)) None) None ≡ Some n
         → (leads s ≡ true) × (all_digits s ≡ true) × (value_after 0 s ≡ n) × (n ≤ largest)
     go true true p q r =
         let c = both_true (all_digits s) _ q in
@@ -182,7 +182,7 @@ number_is s n e = go (leads s) (all_digits s && leb (value_after 0 s) largest) r
     go true false p q r = absurd (not-value r)
     go false b p q r = absurd (not-value r)
 
-pub decimal-only : (s : List ℕ) (n : ℕ) → read_number s ≡ Value n → s ≡ decimal n
+pub decimal-only : (s : List ℕ) (n : ℕ) → read_number s ≡ Some n → s ≡ decimal n
 decimal-only s n e =
     let i = number_is s n e in
     let v = i.2 in

@@ -5,60 +5,54 @@
 --   brackets-.., closing-split      a text in brackets
 --   preview-is                      a preview
 --   column-is                       a name that is found
+--   none-some                       none is not some
 --   field_is, inside_is, piece_is   a piece that is read as a field
---   add_is, from_is, when-ok        a further field that is taken
+--   add_is, from_is, then-some      a further field that is taken
 --   Named, left-named               a piece that is taken, and what is left to read behind it
 --   fields-skip, fields-none        columns that are zero have no text
 --   fields_at                       a column that is not zero
 --   ZeroFrom, Read                  the columns before and behind the next one
 --   read_step, left-text            fields that are read, one by one
 --   fields-only                     all of them
---   FormIs, CallIs                  what is to be shown of a call
+--   CallIs                          what is to be shown of a call
 --   receive-only, settle-only       a call with fields
 --   Words, look-only, number-only   a call with a number alone
 --   form-only, call-only            any call
---   EntryIs, LineIs, line-only      and any line
+--   LineIs, line-only               and any line
 --   entry-only                      TextOnlyLaw
-use mathlib.Core.Bool.{Bool, true, false, cond, not, ◌&&◌, false≢true}
+use mathlib.Core.Bool.{Bool, true, false, cond, not, ◌&&◌}
 use mathlib.Core.List.{List, [], ◌∷◌, ◌++◌}
 use mathlib.Core.Path.{◌≡◌, refl, sym, ap, ap₂, subst, ◌∙◌}
 use Prim.Native.Nat.{ℕ, zero, suc, ◌+◌, ◌-◌, ◌≤◌, ◌<◌}
 use native.Mathlib.Nat.{add-zero}
 use native.Mathlib.Omega.{arith}
 use lib.Dec.{leb, ltb, eqb}
-use lib.ListN.{length, take, drop, get_or, set, replicate, length-drop, length-set, drop_of_length-le, take-append-drop}
+use lib.ListN.{length, take, drop, get_or, set, length-drop, length-set, drop_of_length-le, take-append-drop}
 use lib.Seq.{split_at, get_or-drop, drop-drop, drop-length, get_or-set_same, get_or-set_other}
 use borrow.Author.Tests.{leb-true, ltb-true, eqb-true, not-true}
 use Rattle.vectors.specs.Columns.{asm1, asm1_columns}
-use Rattle.vectors.specs.Units.{milligrams}
 use Rattle.vectors.proofs.Laws.Columns.{both_true}
 use Rattle.plant.specs.declared.answer.Call.{Call}
 use Rattle.plant.specs.declared.answer.Call.TheVariants.{Receive, Feed, Settle, Return, Release, Recycle}
-use Rattle.reading.specs.declared.number.Number.{Number}
-use Rattle.reading.specs.declared.number.Number.TheVariants.{Value, NotANumber}
+use Rattle.std.proofs.Common.{Option, Some, None, option_and_then}
 use Rattle.reading.specs.declared.names.Vector.TheVariants.{Sludge, Digester}
-use Rattle.reading.specs.declared.names.Column.{Column}
-use Rattle.reading.specs.declared.names.Column.TheVariants.{At, Unknown}
 use Rattle.reading.specs.declared.fields.Field.{Field}
-use Rattle.reading.specs.declared.fields.Field.TheVariants.{Of, NotAField}
 use Rattle.reading.specs.declared.fields.Fields.{Fields}
-use Rattle.reading.specs.declared.form.Form.{Form}
-use Rattle.reading.specs.declared.form.Form.TheVariants.{Asked, NotAForm}
-use Rattle.reading.specs.declared.form.Line.{Line}
+use Rattle.reading.specs.declared.form.Asked.{Asked}
 use Rattle.reading.specs.Text.{ascii, same_bytes, Word, look_up, up_to, behind, on_first, pieces}
 use Rattle.reading.specs.Number.{read_number, decimal}
 use Rattle.reading.specs.Names.{names_of, column_from, column_of}
-use Rattle.reading.specs.Form.{field_of, read_field, read_piece, no_fields, add_field, column_in, number_in, when_ok}
-use Rattle.reading.specs.Form.{read_pieces, from_fields, rises, read_fields, field_from, line_of, bare, no_form, receive_line}
+use Rattle.reading.specs.Form.{field, field_of, read_field, read_piece, no_fields, add_field, column_in, number_in}
+use Rattle.reading.specs.Form.{read_pieces, from_fields, rises, read_fields, field_from, no_form, receive_line}
 use Rattle.reading.specs.Form.{settle_line, number_words, number_line, settle_part, settle_by, form_of}
-use Rattle.reading.specs.Line.{in_brackets, inner, call_by, preview_by, preview_line, is_preview, form_in, read_line}
+use Rattle.reading.specs.Line.{in_brackets, inner, call_by, preview_line, is_preview, form_in, read_line}
 use Rattle.reading.specs.Line.{bracketed, preview_text, form_passes, call_passes}
 use Rattle.reading.proofs.Laws.Text.{head_at, same-equal, up_to-take, up_to-length, pieces-some}
 use Rattle.reading.proofs.Laws.Form.{put, left, left_step}
 use Rattle.reading.proofs.Laws.Line.{brackets-two, preview-split, preview-ten}
-use Rattle.writing.specs.Answer.{column_text}
+use Rattle.writing.specs.Answer.{column_text, column_or_none, columns_from}
 use Rattle.writing.proofs.Laws.Decimal.{decimal-digits}
-use Rattle.composing.specs.Line.{field_text, fields_from, fields_text, call_text, entry_text, asked_by}
+use Rattle.composing.specs.Line.{fields_from, fields_text, call_text, entry_text, asked_by}
 use Rattle.composing.specs.Line.{none_zero, fields_no_zero, names_no_zero, TextOnlyLaw}
 use Rattle.composing.proofs.Laws.Number.{decimal-only}
 use Rattle.composing.proofs.Laws.Column.{piece-text, same_at}
@@ -97,7 +91,7 @@ behind-split b (c ∷ s) h = go (eqb c b) refl h (behind-split b s)
     go false e k f = ap (λ (l : List ℕ). c ∷ l) (f k)
 
 -- a number behind a space
-number-split : (s : List ℕ) (k : ℕ) → read_number (behind 32 s) ≡ Value k → s ≡ up_to 32 s ++ (32 ∷ decimal k)
+number-split : (s : List ℕ) (k : ℕ) → read_number (behind 32 s) ≡ Some k → s ≡ up_to 32 s ++ (32 ∷ decimal k)
 number-split s k e =
     let d = decimal-only (behind 32 s) k e in
     behind-split 32 s (omega (arith, ap length d, (decimal-digits k).1)) ∙ ap (λ (l : List ℕ). up_to 32 s ++ (32 ∷ l)) d
@@ -148,33 +142,34 @@ preview-is s e =
 -- ---- a name
 
 -- the name s is the one at i, where the first is counted as j
-column-is : (j : ℕ) (ns : List (List ℕ)) (s : List ℕ) (c : ℕ) → column_from j ns s ≡ At c
+column-is : (j : ℕ) (ns : List (List ℕ)) (s : List ℕ) (c : ℕ) → column_from j ns s ≡ Some c
     → (i : ℕ) × (c ≡ j + i) × (i < length ns) × (s ≡ get_or ns i [])
 unfolding column_from
 column-is j [] s c e = absurd (let z : ◌≡◌ {A = ℕ} 0 1 = cc in omega arith)
 column-is j (n ∷ ns) s c e = go (same_bytes s n) refl e (column-is (j + 1) ns s c)
   where
-    go : (t : Bool) → same_bytes s n ≡ t → cond t (At j) (column_from (j + 1) ns s) ≡ At c
-        → (column_from (j + 1) ns s ≡ At c → (i : ℕ) × (c ≡ j + 1 + i) × (i < length ns) × (s ≡ get_or ns i []))
+    go : (t : Bool) → same_bytes s n ≡ t → cond t (Some j) (column_from (j + 1) ns s) ≡ Some c
+        → (column_from (j + 1) ns s ≡ Some c → (i : ℕ) × (c ≡ j + 1 + i) × (i < length ns) × (s ≡ get_or ns i []))
         → (i : ℕ) × (c ≡ j + i) × (i < length (n ∷ ns)) × (s ≡ get_or (n ∷ ns) i [])
     go true q p f = let h : j ≡ c = cc in (0, omega arith, omega arith, same-equal s n q)
     go false q p f = let r = f p in (suc r.0, omega arith, omega arith, r.3)
 
 -- ---- one piece
 
-no_field : {c k : ℕ} → NotAField ≡ Of c k → ⊥
-no_field e = let z : ◌≡◌ {A = ℕ} 0 1 = cc in omega arith
+-- none is not some
+none-some : {A : Type 0} {x : A} → None ≡ Some x → ⊥
+none-some e = let z : ◌≡◌ {A = ℕ} 0 1 = cc in omega arith
 
-field_is : (x : Column) (m : Number) (c k : ℕ) → field_of x m ≡ Of c k → (x ≡ At c) × (m ≡ Value k)
-field_is (At a) (Value b) c k e = (cc, cc)
-field_is (At a) NotANumber c k e = absurd (no_field e)
-field_is Unknown m c k e = absurd (no_field e)
+field_is : (x m : Option ℕ) (c k : ℕ) → field_of x m ≡ field c k → (x ≡ Some c) × (m ≡ Some k)
+field_is (Some a) (Some b) c k e = (ap Some (ap column_in e), ap Some (ap number_in e))
+field_is (Some a) None c k e = absurd (none-some e)
+field_is None m c k e = absurd (none-some e)
 
 -- the bytes of a field, inside its bracket
 abbrev field_bytes : List (List ℕ) → ℕ → ℕ → List ℕ
 field_bytes names c k = get_or names c [] ++ (32 ∷ decimal k)
 
-inside_is : (names : List (List ℕ)) (s : List ℕ) (c k : ℕ) → read_field names s ≡ Of c k → (c < length names) × (s ≡ field_bytes names c k)
+inside_is : (names : List (List ℕ)) (s : List ℕ) (c k : ℕ) → read_field names s ≡ field c k → (c < length names) × (s ≡ field_bytes names c k)
 unfolding read_field
 inside_is names s c k e =
     let f = field_is (column_of names (up_to 32 s)) (read_number (behind 32 s)) c k e in
@@ -183,14 +178,14 @@ inside_is names s c k e =
     let name = i.3 ∙ ap (λ (x : ℕ). get_or names x []) p in
     (omega (arith, i.1, i.2), number-split s k f.1 ∙ ap (λ (l : List ℕ). l ++ (32 ∷ decimal k)) name)
 
-piece_is : (names : List (List ℕ)) (p : List ℕ) (c k : ℕ) → read_piece names p ≡ Of c k
+piece_is : (names : List (List ℕ)) (p : List ℕ) (c k : ℕ) → read_piece names p ≡ field c k
     → (c < length names) × (p ≡ 32 ∷ (40 ∷ field_bytes names c k))
 unfolding read_piece
-piece_is names [] c k e = absurd (no_field e)
-piece_is names (a ∷ []) c k e = absurd (no_field e)
+piece_is names [] c k e = absurd (none-some e)
+piece_is names (a ∷ []) c k e = absurd (none-some e)
 piece_is names (a ∷ (b ∷ s)) c k e = go (eqb a 32 && eqb b 40) refl e
   where
-    go : (t : Bool) → (eqb a 32 && eqb b 40) ≡ t → cond t (read_field names s) NotAField ≡ Of c k
+    go : (t : Bool) → (eqb a 32 && eqb b 40) ≡ t → cond t (read_field names s) None ≡ field c k
         → (c < length names) × (a ∷ (b ∷ s) ≡ 32 ∷ (40 ∷ field_bytes names c k))
     go true q r =
         let i = inside_is names s c k r in
@@ -198,50 +193,51 @@ piece_is names (a ∷ (b ∷ s)) c k e = go (eqb a 32 && eqb b 40) refl e
         let x = eqb-true a 32 t.0 in
         let y = eqb-true b 40 t.1 in
         (i.0, cc i.1)
-    go false q r = absurd (no_field r)
+    go false q r = absurd (none-some r)
 
 -- ---- a field, and what is left behind it
 
-add_is : (f : Fields) (x : Field) → (add_field f x).ok ≡ true
-    → (c : ℕ) × (k : ℕ) × (x ≡ Of c k) × (c < 26) × (add_field f x ≡ put f c k)
+add_is : (f : Fields) (x : Option Field) (g : Fields) → add_field f x ≡ Some g
+    → (c : ℕ) × (k : ℕ) × (x ≡ field c k) × (c < 26) × (g ≡ put f c k)
 unfolding add_field
-add_is f NotAField e = absurd (false≢true e)
-add_is f (Of c k) e = go (ltb c 26) (get_or f.seen c false) refl e
+add_is f None g e = absurd (none-some e)
+add_is f (Some y) g e = go (ltb y.column 26) (get_or f.seen y.column false) refl e
   where
-    go : (a b : Bool) → ltb c 26 ≡ a → (cond a (cond b (no_fields false) (put f c k)) (no_fields false)).ok ≡ true
-        → (d : ℕ) × (l : ℕ) × (Of c k ≡ Of d l) × (d < 26) × (cond a (cond b (no_fields false) (put f c k)) (no_fields false) ≡ put f d l)
-    go true true q r = absurd (false≢true r)
-    go true false q r = (c, k, refl, ltb-true c 26 q, refl)
-    go false b q r = absurd (false≢true r)
+    go : (a b : Bool) → ltb y.column 26 ≡ a → cond a (cond b None (Some (put f y.column y.number))) None ≡ Some g
+        → (c : ℕ) × (k : ℕ) × (Some y ≡ field c k) × (c < 26) × (g ≡ put f c k)
+    go true true q r = absurd (none-some r)
+    go true false q r = (y.column, y.number, refl, ltb-true y.column 26 q, cc)
+    go false b q r = absurd (none-some r)
 
-from_is : (n : ℕ) (x : Field) (c k : ℕ) → field_from n x ≡ Of c k → (x ≡ Of c k) × (n ≤ c)
-from_is n NotAField c k e = absurd (no_field e)
-from_is n (Of a b) c k e = go (leb n a) refl e
+from_is : (n : ℕ) (x : Option Field) (c k : ℕ) → field_from n x ≡ field c k → (x ≡ field c k) × (n ≤ c)
+from_is n None c k e = absurd (none-some e)
+from_is n (Some y) c k e = go (leb n y.column) refl e
   where
-    go : (t : Bool) → leb n a ≡ t → cond t (Of a b) NotAField ≡ Of c k → (Of a b ≡ Of c k) × (n ≤ c)
-    go true q r = let h : a ≡ c = cc in (r, omega (arith, leb-true n a q))
-    go false q r = absurd (no_field r)
+    go : (t : Bool) → leb n y.column ≡ t → cond t (Some y) None ≡ field c k → (Some y ≡ field c k) × (n ≤ c)
+    go true q r = (r, omega (arith, ap column_in r, leb-true n y.column q))
+    go false q r = absurd (none-some r)
 
-when-ok : (b : Bool) (f : Fields) → (when_ok b f).ok ≡ true → b ≡ true
-when-ok true f e = refl
-when-ok false f e = absurd (false≢true e)
+-- what comes of something is of something
+then-some : {A B : Type 0} (o : Option A) (f : A → Option B) (g : B) → option_and_then f o ≡ Some g → (x : A) × (o ≡ Some x)
+then-some None f g e = absurd (none-some e)
+then-some (Some x) f g e = (x, refl)
 
 -- the piece p is taken as a field, whose column is n or behind it
 record Named (names : List (List ℕ)) (n : ℕ) (f : Fields) (p : List ℕ) (ps : List (List ℕ)) : Type 0 where
   column : ℕ
   number : ℕ
-  piece : read_piece names p ≡ Of column number
+  piece : read_piece names p ≡ field column number
   from : n ≤ column
   below : column < 26
   rest : left names n f (p ∷ ps) ≡ left names (column + 1) (put f column number) ps
 
-left-named : (names : List (List ℕ)) (n : ℕ) (f : Fields) (p : List ℕ) (ps : List (List ℕ)) → 0 < length ps
-    → (left names n f (p ∷ ps)).ok ≡ true → Named names n f p ps
-left-named names n f p ps h e =
+left-named : (names : List (List ℕ)) (n : ℕ) (f : Fields) (p : List ℕ) (ps : List (List ℕ)) (g : Fields) → 0 < length ps
+    → left names n f (p ∷ ps) ≡ Some g → Named names n f p ps
+left-named names n f p ps g h e =
     let x = field_from n (read_piece names p) in
     let r = left_step names n f p ps h in
-    let o = when-ok (add_field f x).ok (left names (column_in x + 1) (add_field f x) ps) (sym (ap (λ (g : Fields). g.ok) r) ∙ e) in
-    let a = add_is f x o in
+    let o = then-some (add_field f x) (λ (y : Fields). left names (column_in x + 1) y ps) g (sym r ∙ e) in
+    let a = add_is f x o.0 o.1 in
     let i = from_is n (read_piece names p) a.0 a.1 a.2 in
     record {
       column = a.0;
@@ -251,8 +247,8 @@ left-named names n f p ps h e =
       below = a.3;
       rest =
           r
-          ∙ ap (λ (b : Bool). when_ok b (left names (column_in x + 1) (add_field f x) ps)) o
-          ∙ ap₂ (λ (y : Field) (g : Fields). left names (column_in y + 1) g ps) a.2 a.4;
+          ∙ ap (λ (y : Option Field). option_and_then (λ (z : Fields). left names (column_in y + 1) z ps) (add_field f y)) a.2
+          ∙ ap (option_and_then (λ (z : Fields). left names (a.0 + 1) z ps)) (sym (ap (add_field f) a.2) ∙ o.1 ∙ ap Some a.4);
     }
 
 -- ---- columns that are zero
@@ -260,11 +256,11 @@ left-named names n f p ps h e =
 -- i of them from n on
 fields-skip : (i n : ℕ) (names : List (List ℕ)) (v : List ℕ) → ((j : ℕ) → n ≤ j → j < n + i → get_or v j 0 ≡ 0)
     → fields_from n names v ≡ fields_from (n + i) (drop i names) v
-unfolding fields_from field_text
+unfolding columns_from column_or_none
 fields-skip zero n names v z = ap (λ (k : ℕ). fields_from k names v) (sym (add-zero n))
 fields-skip (suc i) n [] v z = refl
 fields-skip (suc i) n (name ∷ names) v z =
-    ap (λ (k : ℕ). field_text name k ++ fields_from (n + 1) names v) (z n (omega arith) (omega arith))
+    ap (λ (k : ℕ). column_or_none false name k ++ fields_from (n + 1) names v) (z n (omega arith) (omega arith))
     ∙ fields-skip i (n + 1) names v (λ j h k. z j (omega arith) (omega arith))
     ∙ ap (λ (k : ℕ). fields_from k (drop i names) v) place
   where
@@ -272,7 +268,7 @@ fields-skip (suc i) n (name ∷ names) v z =
     place = omega arith
 
 fields-none : (n : ℕ) (names : List (List ℕ)) (v : List ℕ) → ((j : ℕ) → n ≤ j → get_or v j 0 ≡ 0) → fields_from n names v ≡ []
-unfolding fields_from
+unfolding columns_from
 fields-none n names v z =
     fields-skip (length names) n names v (λ j h k. z j h)
     ∙ ap (λ (ns : List (List ℕ)). fields_from (n + length names) ns v) (drop-length names)
@@ -283,12 +279,12 @@ fields-none n names v z =
 fields_at : (names : List (List ℕ)) (v : List ℕ) (n c k : ℕ) → n ≤ c → c < length names
     → ((j : ℕ) → n ≤ j → j < c → get_or v j 0 ≡ 0) → get_or v c 0 ≡ k → eqb k 0 ≡ false
     → fields_from n (drop n names) v ≡ column_text (get_or names c []) k ++ fields_from (c + 1) (drop (c + 1) names) v
-unfolding fields_from field_text
+unfolding columns_from column_or_none
 fields_at names v n c k h l z a e =
     fields-skip (c - n) n (drop n names) v (λ j i o. z j i (omega arith))
     ∙ ap₂ (λ (m : ℕ) (ns : List (List ℕ)). fields_from m ns v) place (drop-drop (c - n) n names ∙ ap (λ (m : ℕ). drop m names) place)
     ∙ ap (λ (ns : List (List ℕ)). fields_from c ns v) (head_at names [] c l)
-    ∙ ap (λ (m : ℕ). field_text (get_or names c []) m ++ fields_from (c + 1) (drop (c + 1) names) v) a
+    ∙ ap (λ (m : ℕ). column_or_none false (get_or names c []) m ++ fields_from (c + 1) (drop (c + 1) names) v) a
     ∙ ap (λ (b : Bool). cond b [] (column_text (get_or names c []) k) ++ fields_from (c + 1) (drop (c + 1) names) v) e
   where
     place : n + (c - n) ≡ c
@@ -336,38 +332,34 @@ read_step names n f p q ps m g z o r = (text, λ j h. other j (omega (arith, m.f
         ∙ piece-text (get_or names c []) k (fields_from (c + 1) (drop (c + 1) names) g.columns)
         ∙ sym (fields_at names g.columns n c k m.from piece.0 (λ j h i. other j i ∙ z.1 j h) here o)
 
-left-text : (names : List (List ℕ)) (n : ℕ) (f : Fields) (ps : List (List ℕ)) → ZeroFrom n f.columns
-    → none_zero (from_fields number_in names ps) ≡ true → (left names n f ps).ok ≡ true
-    → Read names n f ps (left names n f ps)
+left-text : (names : List (List ℕ)) (n : ℕ) (f : Fields) (ps : List (List ℕ)) (g : Fields) → ZeroFrom n f.columns
+    → none_zero (from_fields number_in names ps) ≡ true → left names n f ps ≡ Some g → Read names n f ps g
 unfolding glue read_pieces from_fields rises none_zero
-left-text names n f [] z o e = absurd (false≢true e)
-left-text names n f ([] ∷ []) z o e = (sym (fields-none n (drop n names) f.columns z.1), λ j h. refl)
-left-text names n f ((c ∷ s) ∷ []) z o e = absurd (false≢true e)
-left-text names n f (p ∷ (q ∷ ps)) z o e =
-    let m = left-named names n f p (q ∷ ps) (omega arith) e in
+left-text names n f [] g z o e = absurd (none-some e)
+left-text names n f ([] ∷ []) g z o e =
+    let q : f ≡ g = cc in
+    subst (Read names n f ([] ∷ [])) q (sym (fields-none n (drop n names) f.columns z.1), λ j h. refl)
+left-text names n f ((c ∷ s) ∷ []) g z o e = absurd (none-some e)
+left-text names n f (p ∷ (q ∷ ps)) g z o e =
+    let m = left-named names n f p (q ∷ ps) g (omega arith) e in
     let c = m.column in
     let k = m.number in
     let b = both_true (not (eqb (number_in (read_piece names p)) 0)) _ o in
-    let y = not-true (eqb k 0) (sym (ap (λ (x : Field). not (eqb (number_in x) 0)) m.piece) ∙ b.0) in
-    let g = left names (c + 1) (put f c k) (q ∷ ps) in
-    let i : g.ok ≡ true = sym (ap (λ (x : Fields). x.ok) m.rest) ∙ e in
-    let r = left-text names (c + 1) (put f c k) (q ∷ ps) (zero-next n c k f.columns m.from z) b.1 i in
-    subst (Read names n f (p ∷ (q ∷ ps))) (sym m.rest) (read_step names n f p q ps m g z y r)
+    let y = not-true (eqb k 0) (sym (ap (λ (x : Option Field). not (eqb (number_in x) 0)) m.piece) ∙ b.0) in
+    let r = left-text names (c + 1) (put f c k) (q ∷ ps) g (zero-next n c k f.columns m.from z) b.1 (sym m.rest ∙ e) in
+    read_step names n f p q ps m g z y r
 
-fields-only : (names : List (List ℕ)) (s : List ℕ) → fields_no_zero names s ≡ true → (read_fields names s).ok ≡ true
-    → s ≡ fields_text names (read_fields names s).columns
-fields-only names s z e =
-    sym (pieces-glue 41 s) ∙ (left-text names 0 (no_fields true) (pieces 41 s) (refl, λ j h. same_at 26 j 0) z e).0
+fields-only : (names : List (List ℕ)) (s : List ℕ) (g : Fields) → fields_no_zero names s ≡ true → read_fields names s ≡ Some g
+    → s ≡ fields_text names g.columns
+fields-only names s g z e =
+    sym (pieces-glue 41 s) ∙ (left-text names 0 no_fields (pieces 41 s) g (refl, λ j h. same_at 26 j 0) z e).0
 
 -- ---- calls
 
 -- u is the text of the call, and no preview, where it is one
-abbrev FormIs : List ℕ → Form → List ℕ → List ℕ → Type 0
-FormIs u (Asked call b) v d = (b ≡ false) × (u ≡ call_text call v d)
-FormIs u NotAForm v d = Unit
-
-abbrev CallIs : List ℕ → Line → Type 0
-CallIs u l = FormIs u l.form l.sludge l.digester
+abbrev CallIs : List ℕ → Option Asked → Type 0
+CallIs u (Some a) = (a.preview ≡ false) × (u ≡ call_text a.request.call a.request.sludge a.request.digester)
+CallIs u None = Unit
 
 -- a word, and what stands behind it
 word_split : (t w : List ℕ) → up_to 32 t ≡ w → t ≡ w ++ drop (length (up_to 32 t)) t
@@ -376,26 +368,22 @@ word_split t w e =
 
 -- the columns of a vector and no others
 asm1-text : (w : List ℕ) → fields_text (names_of Sludge) w ≡ fields_text (names_of Sludge) (asm1_columns (asm1 w))
-unfolding fields_from
+unfolding columns_from
 asm1-text w = refl
 
 module _ (t : List ℕ) where
   receive-only : same_bytes (up_to 32 t) (ascii "receive") ≡ true → fields_no_zero (names_of Sludge) (drop (length (up_to 32 t)) t) ≡ true
       → CallIs (bracketed t) (receive_line (read_fields (names_of Sludge) (drop (length (up_to 32 t)) t)))
-  receive-only e z = go f.ok refl
+  receive-only e z = go (read_fields (names_of Sludge) (drop (length (up_to 32 t)) t)) refl
     where
-      f : Fields
-      f = read_fields (names_of Sludge) (drop (length (up_to 32 t)) t)
-
-      go : (b : Bool) → f.ok ≡ b
-          → CallIs (bracketed t) (cond b (line_of (Asked Receive false) (asm1_columns (asm1 f.columns)) (replicate 26 0)) no_form)
-      go true o = (
+      go : (r : Option Fields) → read_fields (names_of Sludge) (drop (length (up_to 32 t)) t) ≡ r → CallIs (bracketed t) (receive_line r)
+      go (Some f) q = (
         refl,
         ap bracketed
             (word_split t (ascii "receive") (same-equal (up_to 32 t) (ascii "receive") e)
-            ∙ ap (λ (x : List ℕ). ascii "receive" ++ x) (fields-only (names_of Sludge) _ z o ∙ asm1-text f.columns)),
+            ∙ ap (λ (x : List ℕ). ascii "receive" ++ x) (fields-only (names_of Sludge) _ f z q ∙ asm1-text f.columns)),
       )
-      go false o = tt
+      go None q = tt
 
   settle-only : same_bytes (up_to 32 t) (ascii "settle") ≡ true → fields_no_zero (names_of Digester) (settle_part (behind 32 t)) ≡ true
       → CallIs (bracketed t) (settle_by read_fields (behind 32 t))
@@ -405,41 +393,38 @@ module _ (t : List ℕ) where
       u : List ℕ
       u = behind 32 t
 
-      f : Fields
-      f = read_fields (names_of Digester) (settle_part u)
-
-      text : (g : ℕ) → read_number (up_to 32 u) ≡ Value g → f.ok ≡ true
+      text : (g : ℕ) (f : Fields) → read_number (up_to 32 u) ≡ Some g → read_fields (names_of Digester) (settle_part u) ≡ Some f
           → t ≡ ascii "settle " ++ (decimal g ++ fields_text (names_of Digester) f.columns)
-      text g q o =
+      text g f q o =
           let d = decimal-only (up_to 32 u) g q in
           behind-split 32 t (omega (arith, ap length d, (decimal-digits g).1, up_to-length 32 u))
           ∙ ap₂ (λ (x y : List ℕ). x ++ (32 ∷ y)) (same-equal (up_to 32 t) (ascii "settle") e)
-          (word_split u (decimal g) d ∙ ap (λ (x : List ℕ). decimal g ++ x) (fields-only (names_of Digester) (settle_part u) z o))
+          (word_split u (decimal g) d ∙ ap (λ (x : List ℕ). decimal g ++ x) (fields-only (names_of Digester) (settle_part u) f z o))
 
-      fits : (g : ℕ) → read_number (up_to 32 u) ≡ Value g → (b : Bool) → f.ok ≡ b
-          → CallIs (bracketed t) (cond b (line_of (Asked (Settle (milligrams g)) false) (replicate 13 0) f.columns) no_form)
-      fits g q true o = (refl, ap bracketed (text g q o))
-      fits g q false o = tt
+      fits : (g : ℕ) → read_number (up_to 32 u) ≡ Some g → (r : Option Fields) → read_fields (names_of Digester) (settle_part u) ≡ r
+          → CallIs (bracketed t) (settle_line (Some g) r)
+      fits g q (Some f) o = (refl, ap bracketed (text g f q o))
+      fits g q None o = tt
 
-      go : (n : Number) → read_number (up_to 32 u) ≡ n → CallIs (bracketed t) (settle_line n f)
-      go (Value g) q = fits g q f.ok refl
-      go NotANumber q = tt
+      go : (n : Option ℕ) → read_number (up_to 32 u) ≡ n → CallIs (bracketed t) (settle_line n (read_fields (names_of Digester) (settle_part u)))
+      go (Some g) q = fits g q (read_fields (names_of Digester) (settle_part u)) refl
+      go None q = tt
 
 -- each word of a table means a call with the number k
-abbrev Words : ℕ → List (Word Form) → Type 0
+abbrev Words : ℕ → List (Word (Option Asked)) → Type 0
 Words k [] = Unit
-Words k (r ∷ rs) = CallIs (bracketed (ascii r.word ++ (32 ∷ decimal k))) (bare r.meaning) × Words k rs
+Words k (r ∷ rs) = CallIs (bracketed (ascii r.word ++ (32 ∷ decimal k))) r.meaning × Words k rs
 
-look-only : (t : List ℕ) (k : ℕ) → read_number (behind 32 t) ≡ Value k → (rs : List (Word Form)) → Words k rs
-    → CallIs (bracketed t) (bare (look_up NotAForm rs (up_to 32 t)))
+look-only : (t : List ℕ) (k : ℕ) → read_number (behind 32 t) ≡ Some k → (rs : List (Word (Option Asked))) → Words k rs
+    → CallIs (bracketed t) (look_up no_form rs (up_to 32 t))
 unfolding look_up
 look-only t k e [] h = tt
 look-only t k e (r ∷ rs) h = go (same_bytes (up_to 32 t) (ascii r.word)) refl (look-only t k e rs h.1)
   where
-    go : (b : Bool) → same_bytes (up_to 32 t) (ascii r.word) ≡ b → CallIs (bracketed t) (bare (look_up NotAForm rs (up_to 32 t)))
-        → CallIs (bracketed t) (bare (cond b r.meaning (look_up NotAForm rs (up_to 32 t))))
+    go : (b : Bool) → same_bytes (up_to 32 t) (ascii r.word) ≡ b → CallIs (bracketed t) (look_up no_form rs (up_to 32 t))
+        → CallIs (bracketed t) (cond b r.meaning (look_up no_form rs (up_to 32 t)))
     go true q i =
-        subst (λ (x : List ℕ). CallIs (bracketed x) (bare r.meaning))
+        subst (λ (x : List ℕ). CallIs (bracketed x) r.meaning)
         (sym (number-split t k e ∙ ap (λ (x : List ℕ). x ++ (32 ∷ decimal k)) (same-equal (up_to 32 t) (ascii r.word) q)))
         h.0
     go false q i = i
@@ -447,9 +432,9 @@ look-only t k e (r ∷ rs) h = go (same_bytes (up_to 32 t) (ascii r.word)) refl 
 number-only : (t : List ℕ) → CallIs (bracketed t) (number_line (up_to 32 t) (read_number (behind 32 t)))
 number-only t = go (read_number (behind 32 t)) refl
   where
-    go : (n : Number) → read_number (behind 32 t) ≡ n → CallIs (bracketed t) (number_line (up_to 32 t) n)
-    go (Value k) e = look-only t k e (number_words k) ((refl, refl), ((refl, refl), ((refl, refl), ((refl, refl), tt))))
-    go NotANumber e = tt
+    go : (n : Option ℕ) → read_number (behind 32 t) ≡ n → CallIs (bracketed t) (number_line (up_to 32 t) n)
+    go (Some k) e = look-only t k e (number_words k) ((refl, refl), ((refl, refl), ((refl, refl), ((refl, refl), tt))))
+    go None e = tt
 
 form-only : (t : List ℕ) → form_passes fields_no_zero (up_to 32 t) t ≡ true → CallIs (bracketed t) (form_of read_fields (up_to 32 t) t)
 unfolding form_of form_passes
@@ -479,28 +464,21 @@ call-only u h = go (in_brackets u) refl
 -- ---- lines
 
 -- s is the text of the call or of its preview, where it is one
-abbrev EntryIs : List ℕ → Form → List ℕ → List ℕ → Type 0
-EntryIs s (Asked call b) v d = s ≡ entry_text b (record { call = call; sludge = v; digester = d })
-EntryIs s NotAForm v d = Unit
+abbrev LineIs : List ℕ → Option Asked → Type 0
+LineIs s (Some a) = s ≡ entry_text a.preview a.request
+LineIs s None = Unit
 
-abbrev LineIs : List ℕ → Line → Type 0
-LineIs s l = EntryIs s l.form l.sludge l.digester
+call-line-is : (s : List ℕ) (l : Option Asked) → CallIs s l → LineIs s l
+call-line-is s (Some a) h = h.1 ∙ sym (ap (λ (b : Bool). entry_text b a.request) h.0)
+call-line-is s None h = tt
 
-call-line-is : (s : List ℕ) (l : Line) → CallIs s l → LineIs s l
-call-line-is s l h = go l.form h
+preview-line-is : (s u : List ℕ) (l : Option Asked) → s ≡ preview_text u → CallIs u l → LineIs s (preview_line l)
+preview-line-is s u (Some a) e h = go a.preview
   where
-    go : (x : Form) → FormIs s x l.sludge l.digester → EntryIs s x l.sludge l.digester
-    go (Asked call true) i = absurd (false≢true (sym i.0))
-    go (Asked call false) i = i.1
-    go NotAForm i = tt
-
-preview-line-is : (s u : List ℕ) (l : Line) → s ≡ preview_text u → CallIs u l → LineIs s (preview_line l)
-preview-line-is s u l e h = go l.form h
-  where
-    go : (x : Form) → FormIs u x l.sludge l.digester → LineIs s (preview_by x l)
-    go (Asked call true) i = tt
-    go (Asked call false) i = e ∙ ap preview_text i.1
-    go NotAForm i = tt
+    go : (b : Bool) → LineIs s (cond b no_form (Some (record { request = a.request; preview = true })))
+    go true = tt
+    go false = e ∙ ap preview_text h.1
+preview-line-is s u None e h = tt
 
 line-only : (s : List ℕ) → names_no_zero s ≡ true → LineIs s (read_line s)
 unfolding read_line

@@ -8,7 +8,7 @@
 --   piece, piece-read, pieces-column                   a column that is written
 --   Until, until-zero, until-put                       what was read of the columns before one of them
 --   names-inside, names-first, names-rest              the names from a column on
---   Filled, fields_read                                all columns are read
+--   Holds, Filled, fields_read                         all columns are read
 --   fields-no-zero                                     none of them is zero
 --   fields-start                                       they begin with a space
 use mathlib.Core.Bool.{Bool, true, false, cond, not, ◌&&◌, false≢true}
@@ -22,25 +22,24 @@ use lib.ListN.{length, drop, get_or, set, length-append, length-set, length-drop
 use lib.Seq.{drop-cons, get_or-set_same, get_or-set_other}
 use borrow.Author.Tests.{leb-true, leb-false, le-leb, eq-eqb, ne_eqb, eqb-true}
 use Rattle.vectors.proofs.Laws.Columns.{both_true}
-use Rattle.reading.specs.declared.names.Column.{Column}
-use Rattle.reading.specs.declared.names.Column.TheVariants.{At, Unknown}
+use Rattle.std.proofs.Common.{Option, Some, None, option_and_then}
 use Rattle.reading.specs.declared.names.Vector.TheVariants.{Sludge, Digester}
 use Rattle.reading.specs.declared.fields.Field.{Field}
-use Rattle.reading.specs.declared.fields.Field.TheVariants.{Of, NotAField}
 use Rattle.reading.specs.declared.fields.Fields.{Fields}
 use Rattle.reading.specs.Text.{ascii, same_bytes, up_to, behind, pieces}
 use Rattle.reading.specs.Number.{is_digit, all_digits, largest, read_number, decimal}
 use Rattle.reading.specs.Names.{names_of, column_from, column_of, from_column, distinct}
-use Rattle.reading.specs.Form.{field_of, read_field, read_piece, no_fields, add_field, number_in, column_in, when_ok, read_pieces, from_fields}
+use Rattle.reading.specs.Form.{field, field_of, read_field, read_piece, no_fields, add_field, number_in, column_in, read_pieces, from_fields}
 use Rattle.reading.specs.Form.{rises, read_fields, field_from}
 use Rattle.reading.proofs.Laws.Text.{same-equal, pieces-cut, pieces-some}
 use Rattle.reading.proofs.Laws.Names.{column-found, column-from}
 use Rattle.reading.proofs.Laws.Form.{put, add-first, left, left_step}
-use Rattle.writing.specs.Answer.{column_text}
+use Rattle.writing.specs.Answer.{column_text, column_or_none, columns_from}
 use Rattle.writing.proofs.Laws.Decimal.{decimal-digits}
-use Rattle.composing.specs.Line.{field_text, fields_from, fields_text, none_zero, fields_no_zero}
+use Rattle.writing.proofs.Laws.Page.{column-none, column-some}
+use Rattle.composing.specs.Line.{fields_from, fields_text, none_zero, fields_no_zero}
 use Rattle.composing.proofs.Laws.Number.{decimal-read}
-use Rattle.composing.proofs.Laws.Column.{field-none, field-some, piece-text, same_at}
+use Rattle.composing.proofs.Laws.Column.{piece-text, same_at}
 
 -- ---- bytes that lack a byte
 
@@ -138,13 +137,13 @@ clear-lacks s e =
     (same-equal (up_to 32 s) s space.0, same-equal (up_to 41 s) s bracket.0, leb-true (length s) 4 bracket.1)
 
 -- what is found from its own column on is that column
-from_at : (c : ℕ) (x : Column) → from_column c x ≡ At c → x ≡ At c
-from_at c (At i) e = go (leb c i) e
+from_at : (c : ℕ) (x : Option ℕ) → from_column c x ≡ Some c → x ≡ Some c
+from_at c (Some i) e = go (leb c i) e
   where
-    go : (t : Bool) → cond t (At i) Unknown ≡ At c → At i ≡ At c
+    go : (t : Bool) → cond t (Some i) None ≡ Some c → Some i ≡ Some c
     go true q = q
     go false q = absurd (let z : ◌≡◌ {A = ℕ} 0 1 = cc in omega arith)
-from_at c Unknown e = absurd (let z : ◌≡◌ {A = ℕ} 0 1 = cc in omega arith)
+from_at c None e = absurd (let z : ◌≡◌ {A = ℕ} 0 1 = cc in omega arith)
 
 same_refl : (s : List ℕ) → same_bytes s s ≡ true
 unfolding same_bytes
@@ -152,7 +151,7 @@ same_refl [] = refl
 same_refl (b ∷ s) = rw (eq-eqb b b refl) (same_refl s)
 
 module _ (names : List (List ℕ)) (plain : Plain names) (c : ℕ) (h : c < length names) where
-  pub name-column : column_of names (get_or names c []) ≡ At c
+  pub name-column : column_of names (get_or names c []) ≡ Some c
   name-column =
       from_at c (column_of names (get_or names c []))
       (sym (column-from c names (get_or names c []) plain.once) ∙ column-found names (get_or names c []) c c h (same_refl (get_or names c [])))
@@ -172,7 +171,7 @@ module _ (names : List (List ℕ)) (plain : Plain names) (c : ℕ) (h : c < leng
       ap (λ (x : List ℕ). 32 ∷ (40 ∷ x))
       (lacks-append 41 (get_or names c []) (32 ∷ decimal n) lacks.1 (ap (λ (x : List ℕ). 32 ∷ x) (lacks-decimal 41 n (omega arith))))
 
-  pub piece-read : (n : ℕ) → n ≤ largest → read_piece names (piece n) ≡ Of c n
+  pub piece-read : (n : ℕ) → n ≤ largest → read_piece names (piece n) ≡ field c n
   unfolding read_piece read_field
   piece-read n k =
       ap₂ (λ (x y : List ℕ). field_of (column_of names x) (read_number y))
@@ -186,23 +185,26 @@ module _ (names : List (List ℕ)) (plain : Plain names) (c : ℕ) (h : c < leng
 
 -- f holds the columns of v before c, and none behind
 record Until (v : List ℕ) (c : ℕ) (f : Fields) : Type 0 where
-  ok : f.ok ≡ true
   size : length f.columns ≡ 26
   before : (j : ℕ) → j < c → get_or f.columns j 0 ≡ get_or v j 0
   behind : (j : ℕ) → c ≤ j → get_or f.columns j 0 ≡ 0
   unseen : (j : ℕ) → c ≤ j → get_or f.seen j false ≡ false
 
 -- f holds all of them
-pub record Filled (v : List ℕ) (f : Fields) : Type 0 where
-  pub ok : f.ok ≡ true
+pub record Holds (v : List ℕ) (f : Fields) : Type 0 where
   pub size : length f.columns ≡ 26
   pub all : (j : ℕ) → get_or f.columns j 0 ≡ get_or v j 0
+
+-- fields that are read, and hold all of them
+pub record Filled (v : List ℕ) (r : Option Fields) : Type 0 where
+  pub fields : Fields
+  pub read : r ≡ Some fields
+  pub holds : Holds v fields
 
 -- a zero column more
 until-zero : (v : List ℕ) (c : ℕ) (f : Fields) → get_or v c 0 ≡ 0 → Until v c f → Until v (c + 1) f
 until-zero v c f z u =
     record {
-      ok = u.ok;
       size = u.size;
       before = λ j h. go j h (leb c j) refl;
       behind = λ j h. u.behind j (omega arith);
@@ -219,7 +221,6 @@ until-zero v c f z u =
 until-put : (v : List ℕ) (c : ℕ) (f : Fields) → c < 26 → Until v c f → Until v (c + 1) (put f c (get_or v c 0))
 until-put v c f l u =
     record {
-      ok = refl;
       size = length-set f.columns c (get_or v c 0) ∙ u.size;
       before = λ j h. go j h (eqb j c) refl;
       behind = λ j h. get_or-set_other f.columns c j (get_or v c 0) 0 (λ e. omega arith) ∙ u.behind j (omega arith);
@@ -252,8 +253,8 @@ module _ (names : List (List ℕ)) (c : ℕ) (x : List ℕ) (ns : List (List ℕ
 
 module _ (names : List (List ℕ)) (plain : Plain names) (v : List ℕ) (few : length v ≤ length names)
     (small : (j : ℕ) → get_or v j 0 ≤ largest) where
-  until-all : (c : ℕ) (f : Fields) → length names ≤ c → Until v c f → Filled v f
-  until-all c f h u = record { ok = u.ok; size = u.size; all = λ j. go j (leb c j) refl }
+  until-all : (c : ℕ) (f : Fields) → length names ≤ c → Until v c f → Filled v (Some f)
+  until-all c f h u = record { fields = f; read = refl; holds = record { size = u.size; all = λ j. go j (leb c j) refl } }
     where
       go : (j : ℕ) (t : Bool) → leb c j ≡ t → get_or f.columns j 0 ≡ get_or v j 0
       go j true e = u.behind j (leb-true c j e) ∙ sym (get_or-eq_default v 0 (omega (arith, leb-true c j e)))
@@ -265,17 +266,17 @@ module _ (names : List (List ℕ)) (plain : Plain names) (v : List ℕ) (few : l
       ≡ left names (c + 1) (put f c (get_or v c 0)) (pieces 41 s)
   left-field c n f s h l u =
       let k = get_or v c 0 in
-      let x : field_from n (read_piece names (piece names plain c h k)) ≡ Of c k =
-      ap (field_from n) (piece-read names plain c h k (small c)) ∙ ap (λ t. cond t (Of c k) NotAField) (le-leb n c l) in
-      let g : add_field f (Of c k) ≡ put f c k = add-first f (Of c k) (omega (arith, plain.few)) (u.unseen c (omega arith)) in
+      let x : field_from n (read_piece names (piece names plain c h k)) ≡ field c k =
+      ap (field_from n) (piece-read names plain c h k (small c)) ∙ ap (λ t. cond t (field c k) None) (le-leb n c l) in
+      let g : add_field f (field c k) ≡ Some (put f c k) = add-first f (field c k) (omega (arith, plain.few)) (u.unseen c (omega arith)) in
       ap (left names n f) (pieces-column names plain c h k s)
       ∙ left_step names n f (piece names plain c h k) (pieces 41 s) (pieces-some 41 s)
-      ∙ ap (λ (y : Field). when_ok (add_field f y).ok (left names (column_in y + 1) (add_field f y) (pieces 41 s))) x
-      ∙ ap (λ (y : Fields). when_ok y.ok (left names (c + 1) y (pieces 41 s))) g
+      ∙ ap (λ (y : Option Field). option_and_then (λ (z : Fields). left names (column_in y + 1) z (pieces 41 s)) (add_field f y)) x
+      ∙ ap (option_and_then (λ (z : Fields). left names (c + 1) z (pieces 41 s))) g
 
   fields-left : (ns : List (List ℕ)) (c n : ℕ) (f : Fields) → drop c names ≡ ns → n ≤ c → Until v c f
       → Filled v (left names n f (pieces 41 (fields_from c ns v)))
-  unfolding fields_from read_pieces pieces from_fields rises
+  unfolding columns_from read_pieces pieces from_fields rises
   fields-left [] c n f e l u = until-all c f (omega (arith, ap length e, length-drop c names)) u
   fields-left (x ∷ ns) c n f e l u = go (eqb k 0) refl (λ m g. fields-left ns (c + 1) m g (names-rest names c x ns e))
     where
@@ -288,23 +289,22 @@ module _ (names : List (List ℕ)) (plain : Plain names) (v : List ℕ) (few : l
       Further : Type 0
       Further = (m : ℕ) (g : Fields) → m ≤ c + 1 → Until v (c + 1) g → Filled v (left names m g (pieces 41 (fields_from (c + 1) ns v)))
 
-      go : (t : Bool) → eqb k 0 ≡ t → Further → Filled v (left names n f (pieces 41 (field_text x k ++ fields_from (c + 1) ns v)))
+      go : (t : Bool) → eqb k 0 ≡ t → Further → Filled v (left names n f (pieces 41 (column_or_none false x k ++ fields_from (c + 1) ns v)))
       go true q further =
           let z = eqb-true k 0 q in
-          subst (λ (s : List ℕ). Filled v (left names n f (pieces 41 (s ++ fields_from (c + 1) ns v)))) (field-none x k z)
+          subst (λ (s : List ℕ). Filled v (left names n f (pieces 41 (s ++ fields_from (c + 1) ns v)))) (column-none false x k refl z)
           (further n f (omega arith) (until-zero v c f z u))
       go false q further =
-          let text : column_text (get_or names c []) k ≡ field_text x k =
+          let text : column_text (get_or names c []) k ≡ column_or_none false x k =
           ap (λ (y : List ℕ). column_text y k) (sym (names-first names c x ns e))
-          ∙ field-some x k (λ z. false≢true (sym q ∙ eq-eqb k 0 z)) in
+          ∙ column-some false x k (λ z. false≢true (sym q ∙ eq-eqb k 0 z)) in
           subst (λ (s : List ℕ). Filled v (left names n f (pieces 41 (s ++ fields_from (c + 1) ns v)))) text
           (subst (Filled v) (sym (left-field c n f (fields_from (c + 1) ns v) h l u))
           (further (c + 1) (put f c k) (omega arith) (until-put v c f (omega (arith, plain.few, h)) u)))
 
-  none-until : Until v 0 (no_fields true)
+  none-until : Until v 0 no_fields
   none-until =
       record {
-        ok = refl;
         size = refl;
         before = λ j h. absurd (omega arith);
         behind = λ j h. same_at 26 j 0;
@@ -312,11 +312,11 @@ module _ (names : List (List ℕ)) (plain : Plain names) (v : List ℕ) (few : l
       }
 
   pub fields_read : Filled v (read_fields names (fields_text names v))
-  fields_read = fields-left names 0 0 (no_fields true) refl (omega arith) none-until
+  fields_read = fields-left names 0 0 no_fields refl (omega arith) none-until
 
   -- ---- none of them is zero
 
-  fields-first : (of : Field → ℕ) (p : List ℕ) (ps : List (List ℕ)) → 0 < length ps
+  fields-first : (of : Option Field → ℕ) (p : List ℕ) (ps : List (List ℕ)) → 0 < length ps
       → from_fields of names (p ∷ ps) ≡ of (read_piece names p) ∷ from_fields of names ps
   unfolding from_fields
   fields-first of p [] h = absurd (omega arith)
@@ -324,7 +324,7 @@ module _ (names : List (List ℕ)) (plain : Plain names) (v : List ℕ) (few : l
 
   no-zero-from : (ns : List (List ℕ)) (c : ℕ) → drop c names ≡ ns
       → none_zero (from_fields number_in names (pieces 41 (fields_from c ns v))) ≡ true
-  unfolding fields_from pieces from_fields none_zero
+  unfolding columns_from pieces from_fields none_zero
   no-zero-from [] c e = refl
   no-zero-from (x ∷ ns) c e = go (eqb k 0) refl (no-zero-from ns (c + 1) (names-rest names c x ns e))
     where
@@ -345,14 +345,14 @@ module _ (names : List (List ℕ)) (plain : Plain names) (v : List ℕ) (few : l
       numbers =
           ap (from_fields number_in names) (pieces-column names plain c h k rest)
           ∙ fields-first number_in (piece names plain c h k) (pieces 41 rest) (pieces-some 41 rest)
-          ∙ ap (λ (y : Field). number_in y ∷ from_fields number_in names (pieces 41 rest)) (piece-read names plain c h k (small c))
+          ∙ ap (λ (y : Option Field). number_in y ∷ from_fields number_in names (pieces 41 rest)) (piece-read names plain c h k (small c))
 
-      go : (t : Bool) → eqb k 0 ≡ t → Passed rest → Passed (field_text x k ++ rest)
-      go true q i = subst (λ (s : List ℕ). Passed (s ++ rest)) (field-none x k (eqb-true k 0 q)) i
+      go : (t : Bool) → eqb k 0 ≡ t → Passed rest → Passed (column_or_none false x k ++ rest)
+      go true q i = subst (λ (s : List ℕ). Passed (s ++ rest)) (column-none false x k refl (eqb-true k 0 q)) i
       go false q i =
-          let text : column_text (get_or names c []) k ≡ field_text x k =
+          let text : column_text (get_or names c []) k ≡ column_or_none false x k =
           ap (λ (y : List ℕ). column_text y k) (sym (names-first names c x ns e))
-          ∙ field-some x k (λ z. false≢true (sym q ∙ eq-eqb k 0 z)) in
+          ∙ column-some false x k (λ z. false≢true (sym q ∙ eq-eqb k 0 z)) in
           subst (λ (s : List ℕ). Passed (s ++ rest)) text
           (ap none_zero numbers ∙ ap (λ t. not t && none_zero (from_fields number_in names (pieces 41 rest))) q ∙ i)
 
@@ -363,7 +363,7 @@ module _ (names : List (List ℕ)) (plain : Plain names) (v : List ℕ) (few : l
 
 -- they begin with a space
 pub fields-start : (c : ℕ) (ns : List (List ℕ)) (v : List ℕ) → up_to 32 (fields_from c ns v) ≡ []
-unfolding fields_from field_text column_text up_to
+unfolding columns_from column_or_none column_text up_to
 fields-start c [] v = refl
 fields-start c (x ∷ ns) v = go (eqb (get_or v c 0) 0) (fields-start (c + 1) ns v)
   where

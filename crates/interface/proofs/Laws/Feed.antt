@@ -5,27 +5,25 @@
 --   stage1-covered, stage1-short   nitrate that COD covers, and nitrate that it is short for, by any rule
 --   covered-law, short-law         the same by the rule of document 01: CoveredLaw, ShortLaw
 --   stage1-is                      ..  stage5-is      the same numbers, step by step
---   low-is                         a vector read from an array is as low as the array
 --   feed-short, ..                 the three outcomes of the conversion
 --   feed-accepted                  what an accepted conversion is
 --   feed-keeps                     FeedLaw
 use mathlib.Core.Bool.{Bool, true, false, cond}
 use mathlib.Core.List.{List}
-use mathlib.Core.Path.{◌≡◌, refl, sym, subst}
+use mathlib.Core.Path.{◌≡◌, refl, sym}
 use Prim.Native.Nat.{ℕ, ◌+◌, ◌-◌, ◌*◌, ◌/◌, ◌≤◌, ◌<◌, min}
 use native.Mathlib.Nat.{mul_comm, mul-div-le, lt-mul-div-succ, le-div_iff_mul-le, div-lt_iff_lt-mul, div-eq_of_lt-le}
 use native.Mathlib.Nat.{min-eq_left, min-eq_right, le_of_lt}
 use native.Mathlib.Omega.{arith}
 use lib.Dec.{leb, ltb}
 use borrow.Author.Tests.{leb-true, leb-false, ltb-false}
+use Rattle.std.specs.Prelude.{Ok, Err}
+use Rattle.refusals.specs.declared.Refusal.TheVariants.{FeedShort, Overburnt}
 use Rattle.vectors.specs.declared.figures.Figures.{Figures}
 use Rattle.interface.specs.declared.feed.Fed.{Fed}
-use Rattle.columns.specs.declared.columns.Asm1 as in_asm1
-use Rattle.vectors.specs.Columns.{Asm1, asm1, asm1_columns, asm1_ceilings, Below}
-use Rattle.columns.specs.Counts.{asm1_counts}
-use Rattle.interface.specs.Structs.{Low}
+use Rattle.vectors.specs.Columns.{Asm1, asm1}
 use Rattle.interface.specs.Feed.{NitrateRule, nitrate_rule, ceil, warn_of, Stage1, Stage2, Stage4}
-use Rattle.interface.specs.Feed.{stage1, stage2, stage3, stage4, stage5, stages, feed_refused, feed_taken, feed_asm1, feed_of}
+use Rattle.interface.specs.Feed.{stage1, stage2, stage3, stage4, stage5, stages, feed_taken, feed_asm1, feed_of}
 use Rattle.interface.specs.Laws.{CoveredLaw, ShortLaw, FeedLaw}
 use Rattle.vectors.proofs.Laws.Units.{afford, share-le}
 
@@ -193,11 +191,17 @@ module _ (f : Figures) (v : Asm1) (s2 : Stage2) where
   stage3-is saa n left b biomass i inert s t P = cc
 
 module _ (f : Figures) (v : Asm1) (P : ℕ) where
-  pub stage4-is : {p i xi m q p' x h n : ℕ} {short : Bool} → p ≡ P → i ≡ v.xi + v.xp → xi ≡ f.fxi * i / 10000 → m ≡ v.si + xi
-      → q ≡ f.ni * m → p' ≡ p - q → x ≡ q - p → h ≡ v.snh - x → n ≡ p + v.snh → short ≡ ltb n q
-      → (xi ≡ (stage4 f v P).xi) × (p' ≡ (stage4 f v P).P') × (h ≡ (stage4 f v P).H') × (short ≡ (stage4 f v P).short)
+  pub stage4-is : {p i xi m q p' x h : ℕ} → p ≡ P → i ≡ v.xi + v.xp → xi ≡ f.fxi * i / 10000 → m ≡ v.si + xi
+      → q ≡ f.ni * m → p' ≡ p - q → x ≡ q - p → h ≡ v.snh - x
+      → (xi ≡ (stage4 f v P).xi) × (p' ≡ (stage4 f v P).P') × (h ≡ (stage4 f v P).H')
   unfolding stage4
-  stage4-is p i xi m q p' x h n short = (cc, cc, cc, cc)
+  stage4-is p i xi m q p' x h = (cc, cc, cc)
+
+  -- what the test of a shortage says
+  pub stage4-short-is : {p i xi m q n : ℕ} {short t : Bool} → p ≡ P → i ≡ v.xi + v.xp → xi ≡ f.fxi * i / 10000 → m ≡ v.si + xi
+      → q ≡ f.ni * m → n ≡ p + v.snh → short ≡ ltb n q → short ≡ t → (stage4 f v P).short ≡ t
+  unfolding stage4
+  stage4-short-is p i xi m q n short t = cc
 
 module _ (f : Figures) (v : Asm1) (s1 : Stage1) (s4 : Stage4) where
   pub stage5-is : {xs xbh xba xi pool ammonia a b c d all xc rest xch xli m n sin : ℕ}
@@ -211,26 +215,23 @@ module _ (f : Figures) (v : Asm1) (s1 : Stage1) (s4 : Stage4) where
 
 -- ---- the whole conversion
 
-pub low-is : {v : in_asm1.Asm1} (c : List ℕ) → asm1_counts v ≡ asm1 c → Below asm1_ceilings c → Low v
-low-is c e b = subst (λ w. Below asm1_ceilings (asm1_columns w)) (sym e) b
-
 -- an accepted conversion has passed both tests
-pub record FeedAccepted (f : Figures) (c : List ℕ) : Type 0 where
+pub record FeedAccepted (f : Figures) (c : List ℕ) (o : Fed) : Type 0 where
   pub covered : (stages f (asm1 c)).s4.short ≡ false
   pub burns : (stages f (asm1 c)).s1.D ≤ (stages f (asm1 c)).s1.A
-  pub is : feed_of f c ≡ feed_taken (asm1 c) (stages f (asm1 c))
+  pub is : o ≡ feed_taken (asm1 c) (stages f (asm1 c))
 
-passed : (a b : Bool) (x : Fed) → (cond a (feed_refused 4) (cond b (feed_refused 6) x)).refusal ≡ 0
-    → (a ≡ false) × ((b ≡ false) × (cond a (feed_refused 4) (cond b (feed_refused 6) x) ≡ x))
-passed true b x e = absurd (omega arith)
-passed false true x e = absurd (omega arith)
-passed false false x e = (refl, (refl, refl))
+passed : (a b : Bool) (x o : Fed) → cond a (Err FeedShort) (cond b (Err Overburnt) (Ok x)) ≡ Ok o
+    → (a ≡ false) × ((b ≡ false) × (o ≡ x))
+passed true b x o e = absurd (cc e)
+passed false true x o e = absurd (cc e)
+passed false false x o e = (refl, (refl, cc e))
 
-pub feed-accepted : (f : Figures) (c : List ℕ) → (feed_of f c).refusal ≡ 0 → FeedAccepted f c
+pub feed-accepted : (f : Figures) (c : List ℕ) (o : Fed) → feed_of f c ≡ Ok o → FeedAccepted f c o
 unfolding feed_asm1
-feed-accepted f c e =
+feed-accepted f c o e =
     let s = stages f (asm1 c) in
-    let p = passed s.s4.short (ltb s.s1.A s.s1.D) (feed_taken (asm1 c) s) e in
+    let p = passed s.s4.short (ltb s.s1.A s.s1.D) (feed_taken (asm1 c) s) o e in
     record { covered = p.0; burns = ltb-false s.s1.A s.s1.D p.1.0; is = p.1.1 }
 
 -- a test on numbers that are those of the definition
@@ -239,22 +240,22 @@ same_test p q = rw (p, q)
 
 -- the three outcomes
 module _ (f : Figures) (v : Asm1) where
-  pub feed-short : (stages f v).s4.short ≡ true → feed_refused 4 ≡ feed_asm1 f v
+  pub feed-short : (stages f v).s4.short ≡ true → Err FeedShort ≡ feed_asm1 f v
   unfolding feed_asm1
   feed-short t = rw t
 
-  pub feed-over : (stages f v).s4.short ≡ false → ltb (stages f v).s1.A (stages f v).s1.D ≡ true → feed_refused 6 ≡ feed_asm1 f v
+  pub feed-over : (stages f v).s4.short ≡ false → ltb (stages f v).s1.A (stages f v).s1.D ≡ true → Err Overburnt ≡ feed_asm1 f v
   unfolding feed_asm1
   feed-over t u = rw (t, u)
 
   pub feed-taken : (stages f v).s4.short ≡ false → ltb (stages f v).s1.A (stages f v).s1.D ≡ false
-      → feed_taken v (stages f v) ≡ feed_asm1 f v
+      → Ok (feed_taken v (stages f v)) ≡ feed_asm1 f v
   unfolding feed_asm1
   feed-taken t u = rw (t, u)
 
 pub feed-keeps : FeedLaw
-feed-keeps f h c e =
-    let a = feed-accepted f c e in
+feed-keeps f h c o e =
+    let a = feed-accepted f c o e in
     let v = asm1 c in
     let s = stages f v in
     let xi = stage4-cod f v s.P h.fxi_le in

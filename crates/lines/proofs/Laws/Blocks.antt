@@ -4,22 +4,21 @@
 --   text-gathered                         a text and its newline behind the others
 --   answer-gathered, held-gathered        an answer, and the held line, behind the others
 --   part-line                             what a block has of a line, as a part of the block
---   room_fits                             held bytes stay within the line's buffer
---   leb-shift, fits-true, room-true       what the test of the buffers' room tells
---   ready_of                              where a step can be taken
+--   fits-true, room-true                  what the test of the buffers' room tells
+--   ready-true, ready_of                  where a step can be taken
 --   through-newline, through-end          a step where all fits: a line is answered, or its bytes are held
---   step-used, step-unfit, step-ready     a step: the block is used, the buffers have no room, or all fits
+--   step-still, step-goes                 a step: the block is used or the buffers have no room, or all fits
 --   last_none, last_some                  the lines that are left behind the last byte: none, or one
 --   end-unfit, end-ready                  behind the last byte: the buffers have no room, or all fits
-use mathlib.Core.Bool.{Bool, true, false, cond, ◌&&◌, and-false}
+use mathlib.Core.Bool.{true, false, cond, ◌&&◌}
 use mathlib.Core.List.{List, [], ◌∷◌, ◌++◌, append-nil}
 use mathlib.Core.Path.{◌≡◌, refl, sym, ap, subst, ◌∙◌}
 use Prim.Native.Nat.{ℕ, ◌+◌, ◌-◌, ◌≤◌, ◌<◌}
 use native.Mathlib.Omega.{arith}
 use lib.Dec.{ltb, leb, eqb}
-use lib.ListN.{length, take, drop, length-take, length-drop, drop_of_length-le}
+use lib.ListN.{length, take, drop, length-drop, drop_of_length-le}
 use lib.Seq.{drop-drop, length-take-le}
-use borrow.Author.Tests.{lt-ltb, le-ltb, le-leb, lt-leb, eq-eqb, leb-true, leb-false, eqb-true}
+use borrow.Author.Tests.{lt-ltb, le-ltb, le-leb, eq-eqb, leb-true, eqb-true, ltb-true}
 use Rattle.vectors.specs.declared.figures.Figures.{Figures}
 use Rattle.vectors.proofs.Laws.Columns.{both_true}
 use Rattle.plant.specs.declared.record.Plant.{Plant}
@@ -28,7 +27,6 @@ use Rattle.holding.specs.Held.{held_of}
 use Rattle.lines.specs.declared.asking.LineOutcome.{LineOutcome}
 use Rattle.lines.specs.declared.asking.HeldOutcome.{HeldOutcome}
 use Rattle.lines.specs.declared.blocks.Place.{Place}
-use Rattle.lines.specs.declared.blocks.Gathered.{Gathered}
 use Rattle.reading.specs.Text.{newline}
 use Rattle.writing.specs.Buffer.{put_at, Put, Answered}
 use Rattle.writing.specs.Answer.{held_text, fitting}
@@ -90,14 +88,11 @@ part-line s a e h =
     let n : e - a ≡ length (line_in s a) = omega (arith, h) in
     ap (λ (k : ℕ). take k (drop a s)) n ∙ up_to-take newline (drop a s)
 
-pub room_fits : (line s : List ℕ) (held : ℕ) {h : ℕ} {line2 : List ℕ} → held ≤ 1025 → Put line held (room held s) h line2 → h ≤ 1025
-room_fits line s held l k = omega (arith, k.next, length-take (1025 - held) s)
-
 -- a line is answered: the place, the line's buffer and the answers
-answered-desk : (f : Figures) (p : Place) (line out l : List ℕ) (g : Gathered) {out2 : List ℕ} (e : ℕ) → g.plant ≡ after_line f p.plant l → Put out p.at (answer_of f p.plant l) g.at out2
-    → desk (place_at e 0 g.at g.plant) line out2 ≡ answered_desk f p line out l e
-answered-desk f p line out l g e q o = λ i. record {
-  place = record { used = e; held = 0; at = o.next i; plant = q i };
+answered-desk : (f : Figures) (p : Place) (line out l : List ℕ) {q : Plant} {at : ℕ} {out2 : List ℕ} (e : ℕ) → q ≡ after_line f p.plant l
+    → Put out p.at (answer_of f p.plant l) at out2 → desk (place_at e 0 at q) line out2 ≡ answered_desk f p line out l e
+answered-desk f p line out l e r o = λ i. record {
+  place = record { used = e; held = 0; at = o.next i; plant = r i };
   line = line;
   out = o.bytes i;
 }
@@ -117,10 +112,12 @@ module _ (f : Figures) (block line out s : List ℕ) (p : Place) {e h : ℕ} {li
       gathered-desk p line out s t k
       ∙ sym (ap (λ b. cond b (ended f (gathered p line out s (p.used + length s))) (gathered p line out s (p.used + length s))) (le-ltb (p.used + length s) (length block) (omega (arith, t))))
 
-  pub through-newline : (g : Gathered) {out2 : List ℕ} → e < length block → g.plant ≡ after_line f p.plant (take h line2) → Put out p.at (answer_of f p.plant (take h line2)) g.at out2
-      → desk (place_at (e + 1) 0 g.at g.plant) line2 out2 ≡ through f block (desk p line out) s (p.used + length s)
-  through-newline g n q o =
-      answered-desk f p line2 out (take h line2) g (e + 1) q o
+  pub through-newline : {g : Place} {out2 : List ℕ} → e < length block → g ≡ place_at p.used 0 g.at g.plant
+      → (g.plant ≡ after_line f p.plant (take h line2)) × Put out p.at (answer_of f p.plant (take h line2)) g.at out2
+      → desk (place_at (e + 1) g.held g.at g.plant) line2 out2 ≡ through f block (desk p line out) s (p.used + length s)
+  through-newline {g} {out2} n i w =
+      ap (λ (x : Place). desk (place_at (e + 1) x.held g.at g.plant) line2 out2) i
+      ∙ answered-desk f p line2 out (take h line2) (e + 1) w.0 w.1
       ∙ ap (ended f) (gathered-desk p line out s t k)
       ∙ sym (ap (λ b. cond b (ended f (gathered p line out s (p.used + length s))) (gathered p line out s (p.used + length s))) (lt-ltb (p.used + length s) (length block) (omega (arith, t))))
 
@@ -133,57 +130,51 @@ fits-true n held at line out e =
     let b = both_true (leb held 1025) (eqb line 1025) a.0 in
     (leb-true held 1025 b.0, eqb-true line 1025 b.1, leb-true (at + n) out a.1)
 
-pub leb-shift : (n at out : ℕ) → at ≤ out → leb n (out - at) ≡ leb (at + n) out
-leb-shift n at out h = go (leb (at + n) out) refl
-  where
-    go : (b : Bool) → leb (at + n) out ≡ b → leb n (out - at) ≡ b
-    go true e = le-leb n (out - at) (omega (arith, leb-true (at + n) out e))
-    go false e = lt-leb n (out - at) (omega (arith, leb-false (at + n) out e))
-
 pub room-true : (n : ℕ) (k : Desk) → room_for n k ≡ true → (k.place.held ≤ 1025) × (length k.line ≡ 1025) × (k.place.at + n ≤ length k.out)
 room-true n k e = fits-true n k.place.held k.place.at (length k.line) (length k.out) e
+
+pub ready-true : (block : List ℕ) (k : Desk) → ready block k ≡ true
+    → (k.place.used < length block) × (k.place.held ≤ 1025) × (length k.line ≡ 1025) × (k.place.at + 513 ≤ length k.out)
+ready-true block k e =
+    let b = both_true (ltb k.place.used (length block)) (desk_fits k) e in
+    let t = room-true 513 k b.1 in
+    (ltb-true k.place.used (length block) b.0, t.0, t.1, t.2)
 
 pub ready_of : (block : List ℕ) (k : Desk) → k.place.used < length block → k.place.held ≤ 1025 → length k.line ≡ 1025 → k.place.at + 513 ≤ length k.out → ready block k ≡ true
 unfolding fits
 ready_of block k u h l o =
     simp (lt-ltb k.place.used (length block) u, le-leb k.place.held 1025 h, eq-eqb (length k.line) 1025 l, le-leb (k.place.at + 513) (length k.out) o)
 
-and-unfit : (a b : Bool) → b ≡ false → (a && b) ≡ false
-and-unfit a b h = ap (λ (x : Bool). a && x) h ∙ and-false a
-
 module _ (f : Figures) (block : List ℕ) (k : Desk) where
   abbrev goes : Desk
   goes = through f block k (line_in block k.place.used) (k.place.used + length (line_in block k.place.used))
 
-  pub step-used : length block ≤ k.place.used → k ≡ step_of f block k
+  pub step-still : ready block k ≡ false → k ≡ step_of f block k
   unfolding step_of
-  step-used h = sym (ap (λ b. cond (b && desk_fits k) goes k) (le-ltb k.place.used (length block) h))
+  step-still h = sym (ap (λ b. cond b goes k) h)
 
-  pub step-unfit : desk_fits k ≡ false → k ≡ step_of f block k
+  pub step-goes : ready block k ≡ true → goes ≡ step_of f block k
   unfolding step_of
-  step-unfit h = sym (ap (λ b. cond b goes k) (and-unfit (ltb k.place.used (length block)) (desk_fits k) h))
-
-  pub step-ready : k.place.used < length block → desk_fits k ≡ true → goes ≡ step_of f block k
-  unfolding step_of
-  step-ready h e = sym (ap (λ b. cond (b && desk_fits k) goes k) (lt-ltb k.place.used (length block) h) ∙ ap (λ b. cond b goes k) e)
+  step-goes h = sym (ap (λ b. cond b goes k) h)
 
 -- ---- behind the last byte
 
 module _ (f : Figures) (p : Plant) (line out : List ℕ) (at : ℕ) where
-  abbrev Left : ℕ → Gathered → List ℕ → Type 0
-  Left held g out2 = (g.plant ≡ after_lines f p (last_line (take held line))) × Put out at (answers f p (last_line (take held line))) g.at out2
+  -- what is left of a line of so many held bytes leaves the record q, and is put up to the place k
+  abbrev Left : ℕ → Plant → ℕ → List ℕ → Type 0
+  Left held q k out2 = (q ≡ after_lines f p (last_line (take held line))) × Put out at (answers f p (last_line (take held line))) k out2
 
-  pub last_none : (held : ℕ) → held ≡ 0 → Left held (record { at = at; plant = p }) out
+  pub last_none : (held : ℕ) → held ≡ 0 → Left held p at out
   unfolding answers after_lines
   last_none held h = rw h (refl, put-nothing out at)
 
-  pub last_some : (held : ℕ) (g : Gathered) {out2 : List ℕ} → (held ≡ 0 → ⊥) → held ≤ length line
-      → (g.plant ≡ after_line f p (take held line)) × Put out at (answer_of f p (take held line)) g.at out2 → Left held g out2
+  pub last_some : (held : ℕ) (q : Plant) {k : ℕ} {out2 : List ℕ} → (held ≡ 0 → ⊥) → held ≤ length line
+      → (q ≡ after_line f p (take held line)) × Put out at (answer_of f p (take held line)) k out2 → Left held q k out2
   unfolding answers after_lines
-  last_some held g {out2} n l t = go (take held line) (omega (arith, n, length-take-le held line l)) t
+  last_some held q {k} {out2} n l t = go (take held line) (omega (arith, n, length-take-le held line l)) t
     where
-      go : (h : List ℕ) → 0 < length h → (g.plant ≡ after_line f p h) × Put out at (answer_of f p h) g.at out2
-          → (g.plant ≡ after_lines f p (last_line h)) × Put out at (answers f p (last_line h)) g.at out2
+      go : (h : List ℕ) → 0 < length h → (q ≡ after_line f p h) × Put out at (answer_of f p h) k out2
+          → (q ≡ after_lines f p (last_line h)) × Put out at (answers f p (last_line h)) k out2
       go [] z t = absurd (omega arith)
       go (b ∷ h) z t = (t.0, put_same (sym (append-nil (answer_of f p (b ∷ h)))) t.1)
 
@@ -201,14 +192,16 @@ module _ (f : Figures) (p : Place) (line out : List ℕ) where
   unfolding end_of
   end-unfit h = sym (ap (λ b. cond b answered k) h)
 
-  pub end-ready : (g : Gathered) {at : ℕ} {out2 out3 : List ℕ} → room_for 1026 k ≡ true
-      → (g.plant ≡ after_lines f p.plant l) × Put out p.at (answers f p.plant l) g.at out2 → Put out2 g.at (held_line_text f g.plant) at out3 → at ≤ length out
-      → desk (place_at p.used 0 at g.plant) line out3 ≡ end_of f k
+  -- the last line's answer is put, and the held line behind it: the places g and h
+  pub end-ready : {g h : Place} {out2 out3 : List ℕ} → room_for 1026 k ≡ true → h ≡ place_at g.used g.held h.at g.plant
+      → g ≡ place_at p.used 0 g.at g.plant → (g.plant ≡ after_lines f p.plant l) × Put out p.at (answers f p.plant l) g.at out2
+      → Put out2 g.at (held_line_text f g.plant) h.at out3 → h.at ≤ length out → desk h line out3 ≡ end_of f k
   unfolding end_of
-  end-ready g {at} {out2} {out3} h t q n =
-      let w = put_then t.1 (subst (λ (x : Plant). Put out2 g.at (held_line_text f x) at out3) t.0 q) n in
-      ended-desk t.0 w
-      ∙ sym (ap (λ b. cond b answered k) h)
+  end-ready {g} {h} {out2} {out3} r i j t q n =
+      let w = put_then t.1 (subst (λ (x : Plant). Put out2 g.at (held_line_text f x) h.at out3) t.0 q) n in
+      ap (λ (x : Place). desk x line out3) (i ∙ ap (λ (x : Place). place_at x.used x.held h.at x.plant) j)
+      ∙ ended-desk t.0 w
+      ∙ sym (ap (λ b. cond b answered k) r)
     where
       ended-desk : {at : ℕ} {q : Plant} {out3 : List ℕ} → q ≡ after_lines f p.plant l → Put out p.at (transcript f p.plant l) at out3
           → desk (place_at p.used 0 at q) line out3 ≡ answered

@@ -13,7 +13,7 @@
 --   block_held      the held bytes stay within the line's buffer
 --   end-said        behind the last byte, the bytes that are not written are those and the end
 --   desks           DeskLaw
-use mathlib.Core.Bool.{Bool, true, false, cond}
+use mathlib.Core.Bool.{Bool, true, false, cond, ◌&&◌}
 use mathlib.Core.List.{List, [], ◌∷◌, ◌++◌, append_assoc, append-nil}
 use mathlib.Core.Path.{◌≡◌, refl, sym, ap, ◌∙◌}
 use Prim.Native.Nat.{ℕ, zero, suc, ◌+◌, ◌-◌, ◌≤◌, ◌<◌}
@@ -21,9 +21,8 @@ use native.Mathlib.Omega.{arith}
 use lib.Dec.{ltb, eqb}
 use lib.ListN.{length, take, drop, length-append, length-take, length-drop}
 use lib.Seq.{take_all, take-add, drop-drop, take_at, take-append-add, length-take-le}
-use borrow.Author.Tests.{eqb-true, ltb-true, ltb-false}
+use borrow.Author.Tests.{eqb-true, ltb-true, ltb-false, le-ltb}
 use Rattle.vectors.specs.declared.figures.Figures.{Figures}
-use Rattle.vectors.proofs.Laws.Columns.{both_true}
 use Rattle.lines.specs.declared.blocks.Place.{Place}
 use Rattle.reading.specs.Text.{newline, up_to}
 use Rattle.writing.specs.Buffer.{put_at}
@@ -33,7 +32,7 @@ use Rattle.lines.specs.Blocks.{Desk, desk, room_for, desk_fits, ready, room, gat
 use Rattle.lines.specs.Blocks.{state_of, DeskLaw}
 use Rattle.reading.proofs.Laws.Text.{up_to-length}
 use Rattle.lines.proofs.Laws.Session.{run-append, take-take-append}
-use Rattle.lines.proofs.Laws.Blocks.{part-line, room-true, step-used}
+use Rattle.lines.proofs.Laws.Blocks.{part-line, room-true, ready-true, step-still}
 
 -- ---- bytes
 
@@ -147,8 +146,8 @@ module _ (f : Figures) (block : List ℕ) (k : Desk) where
     where
       go : (t : Bool) → ready block k ≡ t → state_of (cond t goes k) ≡ run f (state_of k) (take ((cond t goes k).place.used - k.place.used) (drop k.place.used block))
       go true e =
-          let t = room-true 513 k (both_true (ltb k.place.used (length block)) (desk_fits k) e).1 in
-          through-state f block k.place k.line k.out t.0 t.1 t.2 (ltb (k.place.used + length (line_in block k.place.used)) (length block)) refl
+          let t = ready-true block k e in
+          through-state f block k.place k.line k.out t.1 t.2 t.3 (ltb (k.place.used + length (line_in block k.place.used)) (length block)) refl
       go false e =
           let z : 0 ≡ k.place.used - k.place.used = omega arith in
           ap (λ (n : ℕ). run f (state_of k) (take n (drop k.place.used block))) z
@@ -156,17 +155,18 @@ module _ (f : Figures) (block : List ℕ) (k : Desk) where
   pub step-bounds : ready block k ≡ true → (k.place.used < (step_of f block k).place.used) × ((step_of f block k).place.used ≤ length block)
   unfolding step_of
   step-bounds e =
-      let b = both_true (ltb k.place.used (length block)) (desk_fits k) e in
-      let t = room-true 513 k b.1 in
+      let t = ready-true block k e in
       rw e
-      (through-more f block k.place k.line k.out t.0 t.1 t.2 (ltb (k.place.used + length (line_in block k.place.used)) (length block)) refl (ltb-true k.place.used (length block) b.0))
+      (through-more f block k.place k.line k.out t.1 t.2 t.3 (ltb (k.place.used + length (line_in block k.place.used)) (length block)) refl t.0)
 
 -- ---- a block
 
 module _ (f : Figures) (block : List ℕ) where
   still : (k : Desk) → ready block k ≡ false → step_of f block k ≡ k
-  unfolding step_of
-  still k e = rw e
+  still k e = sym (step-still f block k e)
+
+  used-up : (k : Desk) → length block ≤ k.place.used → ready block k ≡ false
+  used-up k h = ap (λ b. b && desk_fits k) (le-ltb k.place.used (length block) h)
 
   steps-still : (n : ℕ) (k : Desk) → step_of f block k ≡ k → steps_of f block n k ≡ k
   unfolding steps_of
@@ -176,7 +176,7 @@ module _ (f : Figures) (block : List ℕ) where
   -- no step more is left to take
   steps-enough : (n : ℕ) (k : Desk) → length block ≤ n + k.place.used → steps_of f block n (step_of f block k) ≡ steps_of f block n k
   unfolding steps_of
-  steps-enough zero k h = sym (step-used f block k (omega arith))
+  steps-enough zero k h = still k (used-up k (omega arith))
   steps-enough (suc n) k h = go (ready block k) refl (steps-enough n (step_of f block k))
     where
       go : (t : Bool) → ready block k ≡ t → (length block ≤ n + (step_of f block k).place.used → steps_of f block n (step_of f block (step_of f block k)) ≡ steps_of f block n (step_of f block k))

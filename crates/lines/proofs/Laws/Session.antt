@@ -16,13 +16,13 @@ use borrow.Author.Tests.{leb-true, leb-false}
 use Rattle.vectors.specs.declared.figures.Figures.{Figures}
 use Rattle.plant.specs.declared.record.Plant.{Plant}
 use Rattle.plant.specs.declared.answer.Outcome.{Outcome}
-use Rattle.balances.specs.Balance.{after}
-use Rattle.reading.specs.declared.form.Form.{Form}
-use Rattle.reading.specs.declared.form.Form.TheVariants.{Asked, NotAForm}
-use Rattle.reading.specs.declared.form.Line.{Line}
+use Rattle.plant.specs.Calls.{outcome_by}
+use Rattle.balances.specs.Balance.{entry, after}
+use Rattle.std.proofs.Common.{Option, Some, None}
+use Rattle.reading.specs.declared.form.Asked.{Asked}
 use Rattle.reading.specs.Text.{newline}
 use Rattle.reading.specs.Line.{read_line}
-use Rattle.lines.specs.Asking.{form_outcome, asked_outcome, outcome_text}
+use Rattle.lines.specs.Asking.{form_outcome, outcome_text}
 use Rattle.lines.specs.Session.{cut, given_by, answer_of, after_line, answers, after_lines, held_line_text, transcript, entry_of, entries}
 use Rattle.lines.specs.Session.{State, start, kept, ended, run, joined, run_blocks, said, PrintedLaw}
 use Rattle.reading.proofs.Laws.Line.{line-long}
@@ -99,13 +99,16 @@ printed-whole f p bs = ap (said f) (blocks-joined f (start p) bs) ∙ from-held 
 -- ---- the calls and previews that lines ask
 
 module _ (f : Figures) (ls : List (List ℕ)) where
-  after-entry : (form : Form) (l : Line) (p : Plant) → ((q : Plant) → after_lines f q ls ≡ after f q (entries ls))
-      → after_lines f (asked_outcome f p form l).plant ls ≡ after f p (entry_of form l (entries ls))
-  after-entry (Asked call true) l p h = h (asked_outcome f p (Asked call true) l).plant
-  after-entry (Asked call false) l p h = h (asked_outcome f p (Asked call false) l).plant
-  after-entry NotAForm l p h = h p
+  after-entry : (l : Option Asked) (p : Plant) → ((q : Plant) → after_lines f q ls ≡ after f q (entries ls))
+      → after_lines f (form_outcome f p l).plant ls ≡ after f p (entry_of l (entries ls))
+  after-entry (Some a) p h = go a.preview
+    where
+      go : (b : Bool) → after_lines f (outcome_by f p b a.request).plant ls ≡ after f p (entry b a.request ∷ entries ls)
+      go true = h (outcome_by f p true a.request).plant
+      go false = h (outcome_by f p false a.request).plant
+  after-entry None p h = h p
 
 pub after-entries : (f : Figures) (p : Plant) (ls : List (List ℕ)) → after_lines f p ls ≡ after f p (entries ls)
 unfolding after_lines entries given_by
 after-entries f p [] = refl
-after-entries f p (l ∷ ls) = after-entry f ls (read_line l).form (read_line l) p (λ (q : Plant). after-entries f q ls)
+after-entries f p (l ∷ ls) = after-entry f ls (read_line l) p (λ (q : Plant). after-entries f q ls)

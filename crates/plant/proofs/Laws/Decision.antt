@@ -1,81 +1,38 @@
 -- Laws of refusals in their order. Assumes nothing.
 --
---   stop, pass                                                     a test that fails gives its number; one that holds leaves the decision to the next
---   stop-number, pass-number                                       the same of a number that a conversion gives
---   none                                                           where no test is left, the outcome stands
---   decide-none, decide-refused                                    the same of a number that a function of the code gives
---   first-pass, first-stop, first-number, first-sent, first-none   and of the tests that it went through
---   flag                                                           a test of what a function gave is a test of what it stands for
---   number-case                                                    what holds of both sides of a choice by a number holds of the choice
---   number-none, number-some                                       the side that a number chooses
---   decide-case                                                    what holds of the outcome where no refusal applies, and of every refusal, holds of the decision
---   unless-passed, first-passed                                    what no refusal tells of the tests
-use mathlib.Core.Bool.{Bool, true, false, cond}
-use mathlib.Core.List.{List, [], ◌∷◌}
+--   stop, pass                    a test that fails sends away; one that holds leaves the decision to the next
+--   flag                          a test of what a function gave is a test of what it stands for
+--   decide-case                   what holds of the outcome where no refusal applies, and of every refusal, holds of the decision
+--   passed, draw-passed           what no refusal tells of the tests
+--   number-passed                 the same by the number
+use mathlib.Core.Bool.{Bool, true, false}
+use mathlib.Core.List.{List, ◌∷◌}
 use mathlib.Core.Path.{◌≡◌, refl, sym, ◌∙◌}
 use Prim.Native.Nat.{ℕ}
 use native.Mathlib.Omega.{arith}
-use lib.Dec.{T, ltb, ltb→lt, eqb}
-use borrow.Author.Tests.{ne_eqb, eq-eqb, eqb-true, eqb-false}
+use lib.Dec.{T, ltb, ltb→lt}
+use Rattle.std.specs.Prelude.{Option, None, Some, Result}
+use Rattle.std.specs.Result.{IsErrAnd}
+use Rattle.refusals.specs.declared.Refusal.{Refusal}
+use Rattle.refusals.specs.declared.Refusal.TheVariants.{RecordAbove, NotThousandths}
+use Rattle.refusals.specs.Refusal.{number, number_of}
+use Rattle.refusals.specs.Tests.{unless, first, decide}
+use Rattle.interface.proofs.Laws.Whole.{err-is}
 use Rattle.plant.specs.declared.record.Plant.{Plant}
 use Rattle.plant.specs.declared.answer.Outcome.{Outcome}
-use Rattle.plant.specs.Answer.{refused, unless, first, decide}
+use Rattle.plant.specs.Record.{record_within, thousandths}
+use Rattle.plant.specs.Answer.{refused, outcome_of}
 
--- ---- the way to a decision: x is what the code gives
+-- ---- the way to a decision: x is what the code gives, and t its test
 
-module _ (p : Plant) (o : Outcome) where
-  pub stop-number : (n : ℕ) (ns : List ℕ) {x : Outcome} → (n ≡ 0 → ⊥) → x ≡ refused p n → x ≡ decide p (first (n ∷ ns)) o
-  unfolding first decide
-  stop-number n ns h e = rw (ne_eqb n 0 h, ne_eqb n 0 h) e
+module _ {A : Type 0} (o : A) where
+  pub stop : (b : Bool) (r : Refusal) (ts : List (Option Refusal)) {t : Bool} {e : Refusal} {x : Result A Refusal}
+      → t ≡ b → (t ≡ false) × (e ≡ r) → IsErrAnd x (λ y. y ≡ e) → x ≡ decide (first (unless b r ∷ ts)) o
+  stop b r ts {x = x} w f e = rw (sym w ∙ f.0) (err-is x e f.1)
 
-  pub pass-number : (n : ℕ) (ns : List ℕ) {x : Outcome} → n ≡ 0 → x ≡ decide p (first ns) o → x ≡ decide p (first (n ∷ ns)) o
-  unfolding first
-  pass-number n ns h e = rw (eq-eqb n 0 h) e
-
-  pub stop : (b : Bool) (n : ℕ) (ns : List ℕ) {x : Outcome} → T (ltb 0 n) → b ≡ false → x ≡ refused p n
-      → x ≡ decide p (first (unless b n ∷ ns)) o
-  unfolding unless
-  stop b n ns h f e = rw f (stop-number n ns (λ z. absurd (omega (arith, ltb→lt 0 n h))) e)
-
-  pub pass : (b : Bool) (n : ℕ) (ns : List ℕ) {x : Outcome} → b ≡ true → x ≡ decide p (first ns) o
-      → x ≡ decide p (first (unless b n ∷ ns)) o
-  unfolding unless
-  pass b n ns f e = rw f (pass-number 0 ns refl e)
-
-  pub none : {x : Outcome} → x ≡ o → x ≡ decide p (first []) o
-  unfolding first decide
-  none e = e
-
-  -- the same of a number that the code computed
-  pub decide-none : (n : ℕ) {x : Outcome} → n ≡ 0 → x ≡ o → x ≡ decide p n o
-  unfolding decide
-  decide-none n h e = rw (eq-eqb n 0 h) e
-
-  pub decide-refused : (n : ℕ) {x : Outcome} → (n ≡ 0 → ⊥) → x ≡ refused p n → x ≡ decide p n o
-  unfolding decide
-  decide-refused n h e = rw (ne_eqb n 0 h) e
-
--- tests on the way, one after the other
-pub first-pass : (b : Bool) (n : ℕ) (ns : List ℕ) {x : ℕ} → b ≡ true → x ≡ first ns → x ≡ first (unless b n ∷ ns)
-unfolding first unless
-first-pass b n ns f e = rw f e
-
-pub first-stop : (b : Bool) (n : ℕ) (ns : List ℕ) → T (ltb 0 n) → b ≡ false → n ≡ first (unless b n ∷ ns)
-unfolding first unless
-first-stop b n ns h f = rw (f, ne_eqb n 0 (λ z. absurd (omega (arith, ltb→lt 0 n h))))
-
--- the same of a number that stands first
-pub first-number : (n : ℕ) (ns : List ℕ) {x : ℕ} → n ≡ 0 → x ≡ first ns → x ≡ first (n ∷ ns)
-unfolding first
-first-number n ns h e = rw (eq-eqb n 0 h) e
-
-pub first-sent : (n : ℕ) (ns : List ℕ) → (n ≡ 0 → ⊥) → n ≡ first (n ∷ ns)
-unfolding first
-first-sent n ns h = rw (ne_eqb n 0 h)
-
-pub first-none : 0 ≡ first []
-unfolding first
-first-none = refl
+  pub pass : (b : Bool) (r : Refusal) (ts : List (Option Refusal)) {t : Bool} {x : Result A Refusal}
+      → t ≡ b → t ≡ true → x ≡ decide (first ts) o → x ≡ decide (first (unless b r ∷ ts)) o
+  pass b r ts w f e = rw (sym w ∙ f) e
 
 -- a flag that a function gave, and the test of it
 pub flag : {b r v : Bool} → r ≡ b → r ≡ v → b ≡ v
@@ -83,34 +40,23 @@ flag e t = sym e ∙ t
 
 -- ---- from a decision to its tests
 
--- a choice by a number: what holds where it is 0, and where it is not, holds of the choice
-pub number-case : {A : Type 0} (P : A → Type 0) (n : ℕ) (a b : A) → (n ≡ 0 → P a) → ((n ≡ 0 → ⊥) → P b) → P (cond (eqb n 0) a b)
-number-case P n a b none some = go (eqb n 0) refl
-  where
-    go : (t : Bool) → eqb n 0 ≡ t → P (cond t a b)
-    go true e = none (eqb-true n 0 e)
-    go false e = some (eqb-false n 0 e)
+pub decide-case : (P : Outcome → Type 0) (p : Plant) (t : Option Refusal) (o : Outcome) → (t ≡ None → P o) → ((r : Refusal) → P (refused p r))
+    → P (outcome_of p (decide t o))
+decide-case P p None o taken sent = taken refl
+decide-case P p (Some r) o taken sent = sent r
 
-pub number-none : {A : Type 0} (n : ℕ) (a b : A) → n ≡ 0 → cond (eqb n 0) a b ≡ a
-number-none n a b h = rw (eq-eqb n 0 h)
+pub passed : (b : Bool) (r : Refusal) (ts : List (Option Refusal)) → first (unless b r ∷ ts) ≡ None → (b ≡ true) × (first ts ≡ None)
+passed true r ts e = (refl, e)
+passed false r ts e = absurd (cc e)
 
-pub number-some : {A : Type 0} (n : ℕ) (a b : A) → (n ≡ 0 → ⊥) → cond (eqb n 0) a b ≡ b
-number-some n a b h = rw (ne_eqb n 0 h)
+-- of a draw's two tests, and the rest
+pub draw-passed : (p : Plant) (k : ℕ) (ts : List (Option Refusal))
+    → first (unless (record_within p) RecordAbove ∷ unless (thousandths k) NotThousandths ∷ ts) ≡ None
+    → (thousandths k ≡ true) × (first ts ≡ None)
+draw-passed p k ts e =
+    passed (thousandths k) NotThousandths ts (passed (record_within p) RecordAbove (unless (thousandths k) NotThousandths ∷ ts) e).1
 
-pub decide-case : (P : Outcome → Type 0) (p : Plant) (n : ℕ) (o : Outcome) → (n ≡ 0 → P o) → ((n ≡ 0 → ⊥) → P (refused p n))
-    → P (decide p n o)
-unfolding decide
-decide-case P p n o taken sent = number-case P n o (refused p n) taken sent
-
-pub first-passed : (n : ℕ) (ns : List ℕ) → first (n ∷ ns) ≡ 0 → (n ≡ 0) × (first ns ≡ 0)
-unfolding first
-first-passed n ns = go (eqb n 0) refl
-  where
-    go : (b : Bool) → eqb n 0 ≡ b → cond b (first ns) n ≡ 0 → (n ≡ 0) × (first ns ≡ 0)
-    go true e h = (eqb-true n 0 e, h)
-    go false e h = absurd (let z : ◌≡◌ {A = Bool} true false = cc (eq-eqb n 0 h) in let y : ◌≡◌ {A = ℕ} 0 1 = cc in omega arith)
-
-pub unless-passed : (b : Bool) (n : ℕ) → T (ltb 0 n) → unless b n ≡ 0 → b ≡ true
-unfolding unless
-unless-passed true n h e = refl
-unless-passed false n h e = absurd (omega (arith, ltb→lt 0 n h))
+pub number-passed : (b : Bool) (r : Refusal) (ts : List (Option Refusal)) → T (ltb 0 (number r)) → number_of (first (unless b r ∷ ts)) ≡ 0
+    → (b ≡ true) × (number_of (first ts) ≡ 0)
+number-passed true r ts h e = (refl, e)
+number-passed false r ts h e = absurd (omega (arith, ltb→lt 0 (number r) h, e))

@@ -2,10 +2,10 @@
 --
 --   field-split, field-none                     a field of column n or behind it, by the place of its space
 --   piece-..                                    a field behind a space and a bracket
---   add_none, add-again, add-first, add-marked  a further field: none, one whose column was named, one that is the first
+--   add_none, add-again, add-first              a further field: none, one whose column was named, one that is the first
 --   left                                        what is left to read in a loop over fields
 --   left_step                                   one piece of it
---   left-unclosed, left-go, left-stop, left_end one turn of that loop
+--   left-unclosed, left-next, left_end          one turn of that loop
 --   form-receive, form-settle, form-number, ..  a form, by the place of its first space
 use mathlib.Core.Bool.{Bool, true, false, cond, ◌&&◌, and-false}
 use mathlib.Core.List.{List, [], ◌∷◌}
@@ -17,40 +17,35 @@ use lib.Dec.{ltb, leb}
 use lib.ListN.{length, take, drop, get_or, set, drop_of_length-le, length-drop}
 use lib.Seq.{drop-drop}
 use borrow.Author.Tests.{eq-eqb, ne_eqb, le-ltb, lt-ltb}
-use Rattle.reading.specs.declared.number.Number.{Number}
-use Rattle.reading.specs.declared.number.Number.TheVariants.{Value, NotANumber}
-use Rattle.reading.specs.declared.names.Column.{Column}
-use Rattle.reading.specs.declared.names.Column.TheVariants.{At, Unknown}
+use Rattle.std.proofs.Common.{Option, Some, None, option_and_then}
 use Rattle.reading.specs.declared.names.Vector.TheVariants.{Sludge, Digester}
-use Rattle.reading.specs.declared.form.Line.{Line}
 use Rattle.reading.specs.declared.fields.Field.{Field}
-use Rattle.reading.specs.declared.fields.Field.TheVariants.{Of, NotAField}
 use Rattle.reading.specs.declared.fields.Fields.{Fields}
 use Rattle.reading.specs.Text.{ascii, same_bytes, up_to, behind, pieces}
 use Rattle.reading.specs.Number.{read_number}
 use Rattle.reading.specs.Names.{names_of, column_of, from_column}
-use Rattle.reading.specs.Form.{field_of, read_field, read_piece, no_fields, add_field, column_in, number_in, at_end, when_ok}
+use Rattle.reading.specs.Form.{field_of, read_field, read_piece, field, add_field, column_in, number_in, at_end}
 use Rattle.reading.specs.Form.{read_pieces, from_fields, named, rises, read_fields, field_from}
-use Rattle.reading.specs.Form.{no_form, receive_line, settle_line, number_line}
+use Rattle.reading.specs.Form.{receive_line, settle_line, number_line}
 use Rattle.reading.specs.Form.{settle_by, form_of, form_by}
 use Rattle.reading.proofs.Laws.Text.{rest_of, up_to-place, behind-drop, behind-next, pieces-cut, pieces-last, pieces-some}
 use Rattle.reading.proofs.Laws.Number.{number-empty}
 
 -- ---- one field
 
-no_number : (c : Column) → field_of c NotANumber ≡ NotAField
-no_number (At c) = refl
-no_number Unknown = refl
+no_number : (c : Option ℕ) → field_of c None ≡ None
+no_number (Some c) = refl
+no_number None = refl
 
 -- its column is n or behind it
-field-from : (n : ℕ) (c : Column) (k : Number) → field_of (from_column n c) k ≡ field_from n (field_of c k)
-field-from n Unknown k = refl
-field-from n (At c) (Value k) = go (leb n c)
+field-from : (n : ℕ) (c k : Option ℕ) → field_of (from_column n c) k ≡ field_from n (field_of c k)
+field-from n None k = refl
+field-from n (Some c) (Some k) = go (leb n c)
   where
-    go : (b : Bool) → field_of (cond b (At c) Unknown) (Value k) ≡ cond b (Of c k) NotAField
+    go : (b : Bool) → field_of (cond b (Some c) None) (Some k) ≡ cond b (field c k) None
     go true = refl
     go false = refl
-field-from n (At c) NotANumber = no_number (from_column n (At c))
+field-from n (Some c) None = no_number (from_column n (Some c))
 
 -- where k is the place of its space
 module _ (names : List (List ℕ)) (n : ℕ) (s : List ℕ) (k : ℕ) (e : k ≡ 0 + length (up_to 32 s)) where
@@ -62,30 +57,30 @@ module _ (names : List (List ℕ)) (n : ℕ) (s : List ℕ) (k : ℕ) (e : k ≡
       (up_to-place 32 s k e) (rest_of s (k + 1) ∙ behind-next 32 s k e)
       ∙ field-from n (column_of names (up_to 32 s)) (read_number (behind 32 s))
 
-  pub field-none : length s ≤ k → NotAField ≡ field_from n (read_field names s)
+  pub field-none : length s ≤ k → None ≡ field_from n (read_field names s)
   unfolding read_field
   field-none h =
       sym
-      (ap (λ (m : Number). field_from n (field_of (column_of names (up_to 32 s)) m))
+      (ap (λ (m : Option ℕ). field_from n (field_of (column_of names (up_to 32 s)) m))
       (ap read_number (sym (behind-next 32 s k e) ∙ drop_of_length-le s {i = k + 1} (omega arith)) ∙ number-empty [] refl)
       ∙ ap (field_from n) (no_number (column_of names (up_to 32 s))))
 
 -- ---- a space, an opening bracket and a field
 
 module _ (names : List (List ℕ)) where
-  pub piece-short : (s : List ℕ) → length s < 2 → NotAField ≡ read_piece names s
+  pub piece-short : (s : List ℕ) → length s < 2 → None ≡ read_piece names s
   unfolding read_piece
   piece-short [] h = refl
   piece-short (a ∷ []) h = refl
   piece-short (a ∷ (b ∷ s)) h = absurd (omega arith)
 
-  pub piece-first : (s : List ℕ) → (get_or s 0 0 ≡ 32 → ⊥) → NotAField ≡ read_piece names s
+  pub piece-first : (s : List ℕ) → (get_or s 0 0 ≡ 32 → ⊥) → None ≡ read_piece names s
   unfolding read_piece
   piece-first [] h = refl
   piece-first (a ∷ []) h = refl
   piece-first (a ∷ (b ∷ s)) h = simp (ne_eqb a 32 h)
 
-  pub piece-second : (s : List ℕ) → (get_or s 1 0 ≡ 40 → ⊥) → NotAField ≡ read_piece names s
+  pub piece-second : (s : List ℕ) → (get_or s 1 0 ≡ 40 → ⊥) → None ≡ read_piece names s
   unfolding read_piece
   piece-second [] h = refl
   piece-second (a ∷ []) h = refl
@@ -101,41 +96,33 @@ module _ (names : List (List ℕ)) where
 
 -- f with the number n in column c, which was not named before
 abbrev pub put : Fields → ℕ → ℕ → Fields
-put f c n = record { ok = true; columns = set f.columns c n; seen = set f.seen c true }
+put f c n = record { columns = set f.columns c n; seen = set f.seen c true }
 
-pub add_none : (f : Fields) (x : Field) → 26 ≤ column_in x → add_field f x ≡ no_fields false
+pub add_none : (f : Fields) (x : Option Field) → 26 ≤ column_in x → add_field f x ≡ None
 unfolding add_field
-add_none f (Of c n) h = rw (le-ltb c 26 h)
-add_none f NotAField h = refl
+add_none f (Some x) h = rw (le-ltb x.column 26 h)
+add_none f None h = refl
 
-pub add-again : (f : Fields) (x : Field) → get_or f.seen (column_in x) false ≡ true → add_field f x ≡ no_fields false
+pub add-again : (f : Fields) (x : Option Field) → get_or f.seen (column_in x) false ≡ true → add_field f x ≡ None
 unfolding add_field
-add-again f (Of c n) e = go (ltb c 26)
+add-again f (Some x) e = go (ltb x.column 26)
   where
-    go : (t : Bool) → cond t (cond (get_or f.seen c false) (no_fields false) (put f c n)) (no_fields false) ≡ no_fields false
+    go : (t : Bool) → cond t (cond (get_or f.seen x.column false) None (Some (put f x.column x.number))) None ≡ None
     go true = rw e
     go false = refl
-add-again f NotAField e = refl
+add-again f None e = refl
 
-pub add-first : (f : Fields) (x : Field) → column_in x < 26 → get_or f.seen (column_in x) false ≡ false
-    → add_field f x ≡ put f (column_in x) (number_in x)
+pub add-first : (f : Fields) (x : Option Field) → column_in x < 26 → get_or f.seen (column_in x) false ≡ false
+    → add_field f x ≡ Some (put f (column_in x) (number_in x))
 unfolding add_field
-add-first f (Of c n) h e = simp (lt-ltb c 26 h, e)
-add-first f NotAField h e = absurd (omega arith)
-
--- the same in place, where c is the column and n the number
-pub add-marked : (f : Fields) (x : Field) {c n : ℕ}
-    → f.ok ≡ true → c ≡ column_in x → n ≡ number_in x → c < 26 → get_or f.seen c false ≡ false
-    → record { ok = f.ok; columns = set f.columns c n; seen = set f.seen c true } ≡ add_field f x
-add-marked f x o p q h e =
-    (λ i. record { ok = o i; columns = set f.columns (p i) (q i); seen = set f.seen (p i) true })
-    ∙ sym (add-first f x (omega (arith, p, h)) (ap (λ (j : ℕ). get_or f.seen j false) (sym p) ∙ e))
+add-first f (Some x) h e = simp (lt-ltb x.column 26 h, e)
+add-first f None h e = absurd (omega arith)
 
 -- ---- a loop over the fields of s, at i, with f so far and the next column n
 
 -- what is left to read
-abbrev pub left : List (List ℕ) → ℕ → Fields → List (List ℕ) → Fields
-left names n f ps = when_ok (rises n (named names ps)) (read_pieces names f ps)
+abbrev pub left : List (List ℕ) → ℕ → Fields → List (List ℕ) → Option Fields
+left names n f ps = cond (rises n (named names ps)) (read_pieces names f ps) None
 
 -- two tests with the same end may change places
 pub cond-swap : {A : Type 0} (a b : Bool) (x y : A) → cond a (cond b x y) y ≡ cond b (cond a x y) y
@@ -143,49 +130,56 @@ cond-swap true b x y = refl
 cond-swap false true x y = refl
 cond-swap false false x y = refl
 
--- nothing is read behind what is no field or steps back
-left-case : (n : ℕ) (x : Field) (r : ℕ → Bool) (f : Fields) (g : Fields → Fields)
-    → when_ok (leb n (column_in x) && r (column_in x + 1)) (when_ok (add_field f x).ok (g (add_field f x)))
-    ≡ when_ok (add_field f (field_from n x)).ok (when_ok (r (column_in (field_from n x) + 1)) (g (add_field f (field_from n x))))
+-- nothing is read behind what is no field
+none-case : {A B : Type 0} (b : Bool) (o : Option A) (g : A → Option B)
+    → cond b (option_and_then g o) None ≡ option_and_then (λ (x : A). cond b (g x) None) o
+none-case true o g = refl
+none-case false None g = refl
+none-case false (Some x) g = refl
+
+-- nor behind what steps back
+left-case : (n : ℕ) (x : Option Field) (r : ℕ → Bool) (f : Fields) (g : Fields → Option Fields)
+    → cond (leb n (column_in x) && r (column_in x + 1)) (option_and_then g (add_field f x)) None
+    ≡ option_and_then (λ (h : Fields). cond (r (column_in (field_from n x) + 1)) (g h) None) (add_field f (field_from n x))
 unfolding add_field
-left-case n NotAField r f g = cond-swap (leb n 26 && r 27) false (no_fields true) (no_fields false)
-left-case n (Of c k) r f g = go (leb n c)
+left-case n None r f g = none-case (leb n 26 && r 27) None g
+left-case n (Some x) r f g = go (leb n x.column)
   where
     go : (b : Bool)
-        → when_ok (b && r (c + 1)) (when_ok (add_field f (Of c k)).ok (g (add_field f (Of c k))))
-        ≡ when_ok (add_field f (cond b (Of c k) NotAField)).ok
-        (when_ok (r (column_in (cond b (Of c k) NotAField) + 1)) (g (add_field f (cond b (Of c k) NotAField))))
-    go true = cond-swap (r (c + 1)) (add_field f (Of c k)).ok (g (add_field f (Of c k))) (no_fields false)
+        → cond (b && r (x.column + 1)) (option_and_then g (add_field f (Some x))) None
+        ≡ option_and_then (λ (h : Fields). cond (r (column_in (cond b (Some x) None) + 1)) (g h) None) (add_field f (cond b (Some x) None))
+    go true = none-case (r (x.column + 1)) (add_field f (Some x)) g
     go false = refl
 
 -- one piece more
 pub left_step : (names : List (List ℕ)) (n : ℕ) (f : Fields) (p : List ℕ) (ps : List (List ℕ)) → 0 < length ps
     → left names n f (p ∷ ps)
-    ≡ (let x = field_from n (read_piece names p) in when_ok (add_field f x).ok (left names (column_in x + 1) (add_field f x) ps))
+    ≡ (let x = field_from n (read_piece names p) in
+    option_and_then (λ (g : Fields). left names (column_in x + 1) g ps) (add_field f x))
 unfolding read_pieces from_fields rises
 left_step names n f p [] h = absurd (omega arith)
 left_step names n f p (q ∷ ps) h =
     left-case n (read_piece names p) (λ (m : ℕ). rises m (named names (q ∷ ps))) f (λ (g : Fields). read_pieces names g (q ∷ ps))
 
 module _ (names : List (List ℕ)) (n : ℕ) (f : Fields) (s : List ℕ) (i : ℕ) where
-  not-empty : (t : List ℕ) → 0 < length t → at_end f t ≡ no_fields false
+  not-empty : (t : List ℕ) → 0 < length t → at_end f t ≡ None
   not-empty [] h = absurd (omega arith)
   not-empty (c ∷ t) h = refl
 
   -- a last piece is not followed by another
-  pub left-unclosed : i < length s → length s ≤ i + length (up_to 41 (drop i s)) → left names n f (pieces 41 (drop i s)) ≡ no_fields false
+  pub left-unclosed : i < length s → length s ≤ i + length (up_to 41 (drop i s)) → left names n f (pieces 41 (drop i s)) ≡ None
   unfolding read_pieces from_fields rises
   left-unclosed h k =
       ap (left names n f) (pieces-last 41 (drop i s) (omega (arith, length-drop i s)))
       ∙ not-empty (drop i s) (omega (arith, length-drop i s))
 
-  pub left_end : length s ≤ i → left names n f (pieces 41 (drop i s)) ≡ f
+  pub left_end : length s ≤ i → left names n f (pieces 41 (drop i s)) ≡ Some f
   unfolding read_pieces pieces from_fields rises
   left_end h = simp (drop_of_length-le s h)
 
   -- where e is the place of the next closing bracket, x the field before it, and g is f with it
   module _ (e : ℕ) (q : e ≡ i + length (up_to 41 (drop i s))) (h : e < length s)
-      (x : Field) (p : x ≡ field_from n (read_piece names (take (e - i) (drop i s)))) (g : Fields) (r : g ≡ add_field f x) where
+      (x : Option Field) (p : x ≡ field_from n (read_piece names (take (e - i) (drop i s)))) where
     piece-at : take (e - i) (drop i s) ≡ up_to 41 (drop i s)
     piece-at = up_to-place 41 (drop i s) (e - i) (omega arith)
 
@@ -199,19 +193,15 @@ module _ (names : List (List ℕ)) (n : ℕ) (f : Fields) (s : List ℕ) (i : �
         place : e + 1 ≡ i + suc (length (up_to 41 (drop i s)))
         place = omega arith
 
-    left-next : left names n f (pieces 41 (drop i s)) ≡ when_ok g.ok (left names (column_in x + 1) g (pieces 41 (drop (e + 1) s)))
-    left-next =
+    pub left-next : (g : Option Fields) → g ≡ add_field f x → left names n f (pieces 41 (drop i s))
+        ≡ option_and_then (λ (y : Fields). left names (column_in x + 1) y (pieces 41 (drop (e + 1) s))) g
+    left-next g r =
         ap (left names n f) (pieces-cut 41 (drop i s) (omega (arith, length-drop i s)))
         ∙ left_step names n f (up_to 41 (drop i s)) (pieces 41 (behind 41 (drop i s))) (pieces-some 41 (behind 41 (drop i s)))
-        ∙ ap₂ (λ (y : Field) (t : List ℕ). when_ok (add_field f y).ok (left names (column_in y + 1) (add_field f y) (pieces 41 t)))
+        ∙ ap₂ (λ (y : Option Field) (t : List ℕ).
+        option_and_then (λ (y' : Fields). left names (column_in y + 1) y' (pieces 41 t)) (add_field f y))
         field_at (sym rest_at)
-        ∙ ap (λ (y : Fields). when_ok y.ok (left names (column_in x + 1) y (pieces 41 (drop (e + 1) s)))) (sym r)
-
-    pub left-go : g.ok ≡ true → left names n f (pieces 41 (drop i s)) ≡ left names (column_in x + 1) g (pieces 41 (drop (e + 1) s))
-    left-go o = left-next ∙ ap (λ (b : Bool). when_ok b (left names (column_in x + 1) g (pieces 41 (drop (e + 1) s)))) o
-
-    pub left-stop : g.ok ≡ false → left names n f (pieces 41 (drop i s)) ≡ no_fields false
-    left-stop o = left-next ∙ ap (λ (b : Bool). when_ok b (left names (column_in x + 1) g (pieces 41 (drop (e + 1) s)))) o
+        ∙ ap (option_and_then (λ (y : Fields). left names (column_in x + 1) y (pieces 41 (drop (e + 1) s)))) (sym r)
 
 -- ---- a form, where k is the place of its first space
 
@@ -242,6 +232,3 @@ module _ (t : List ℕ) (k : ℕ) (e : k ≡ 0 + length (up_to 32 t)) where
       → number_line (take k t) (read_number (behind 32 t)) ≡ form_by read_fields t
   unfolding form_of
   form-number h i = rw (word-is _ h, word-is _ i) (ap (λ (x : List ℕ). number_line x (read_number (behind 32 t))) (up_to-place 32 t k e))
-
-pub ok-line : {x : Line} (f : Fields) (l : Line) → f.ok ≡ true → x ≡ l → x ≡ cond f.ok l no_form
-ok-line f l h e = rw h e

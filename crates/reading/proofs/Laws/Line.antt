@@ -3,10 +3,8 @@
 --   brackets-short, brackets-long, brackets-open, brackets-close   the test of the brackets
 --   brackets-two                                                   what is inside them begins behind the first byte
 --   call_none, call-form                                           the form of a call in its brackets, by that test
---   preview-word, preview-short, preview-brackets, preview-ten     the test of a preview
---   preview-called                                                 a preview of a call
---   between-preview, between-line                                  what is read between two bounds: a preview's form, or the whole line
---   line-preview, line-call, line-long                             a whole line
+--   preview-word, preview-brackets, preview-ten                    the test of a preview
+--   line-preview, line-call, line-none, line-long                  a whole line
 --   preview-form-law                                               PreviewFormLaw
 --   order-law                                                      OrderLaw
 use mathlib.Core.Bool.{Bool, true, false, cond, ◌&&◌, and-false, false≢true}
@@ -16,25 +14,21 @@ use Prim.Native.Nat.{ℕ, ◌+◌, ◌-◌, ◌≤◌, ◌<◌}
 use native.Mathlib.Omega.{arith}
 use lib.Dec.{eqb}
 use lib.ListN.{length, take, drop, get_or, length-append, take-append-drop}
-use lib.Seq.{get_or_at, take_all, take_at, take-append-add}
+use lib.Seq.{get_or_at, take_at, take-append-add}
 use borrow.Author.Tests.{eq-eqb, ne_eqb, le-leb, lt-leb, leb-true}
 use Rattle.vectors.proofs.Laws.Columns.{both_true}
-use Rattle.plant.specs.declared.answer.Call.{Call}
-use Rattle.reading.specs.declared.number.Number.{Number}
-use Rattle.reading.specs.declared.number.Number.TheVariants.{Value, NotANumber}
+use Rattle.std.proofs.Common.{Option, Some, None}
 use Rattle.reading.specs.declared.names.Vector.TheVariants.{Sludge, Digester}
 use Rattle.reading.specs.declared.fields.Fields.{Fields}
-use Rattle.reading.specs.declared.form.Form.{Form}
-use Rattle.reading.specs.declared.form.Form.TheVariants.{Asked, NotAForm}
-use Rattle.reading.specs.declared.form.Line.{Line}
+use Rattle.reading.specs.declared.form.Asked.{Asked}
 use Rattle.reading.specs.Text.{ascii, same_bytes, look_up, up_to, behind}
 use Rattle.reading.specs.Number.{read_number}
 use Rattle.reading.specs.Names.{names_of}
-use Rattle.reading.specs.Form.{when_ok, any_fields, in_order, read_fields, line_of, no_form, receive_line, settle_line, number_line}
+use Rattle.reading.specs.Form.{any_fields, in_order, read_fields, no_form, receive_line, settle_line, number_line}
 use Rattle.reading.specs.Form.{settle_part, settle_by, form_of, form_by}
-use Rattle.reading.specs.Line.{in_brackets, inner, call_by, preview_by, preview_line, is_preview, form_in, read_line}
+use Rattle.reading.specs.Line.{in_brackets, inner, call_by, preview_line, is_preview, form_in, read_line}
 use Rattle.reading.specs.Line.{bracketed, preview_text, PreviewFormLaw, form_passes, call_passes, OrderLaw}
-use Rattle.reading.proofs.Laws.Text.{same-lengths, same-equal, rest_of}
+use Rattle.reading.proofs.Laws.Text.{same-equal}
 use Rattle.reading.proofs.Laws.Form.{cond-swap}
 
 -- ---- brackets
@@ -77,11 +71,6 @@ module _ (s : List ℕ) where
   unfolding is_preview
   preview-word e = simp (e, and-false)
 
-  pub preview-short : length s < 9 → false ≡ is_preview s
-  preview-short h =
-      let n = ap length (take_all 9 s (omega arith)) in
-      preview-word (same-lengths (take 9 s) (ascii "(preview ") (λ e. omega (arith, e, n)))
-
   pub preview-brackets : same_bytes (take 9 s) (ascii "(preview ") ≡ true → in_brackets s ≡ is_preview s
   unfolding is_preview
   preview-brackets e = go (in_brackets s)
@@ -105,19 +94,7 @@ module _ (s : List ℕ) where
       go [] q i = absurd (false≢true (ap in_brackets (sym q) ∙ i))
       go (y ∷ ys) q i = omega (arith, ap length q)
 
--- what a preview of a call is
-pub preview-called : (l : Line) (call : Call) (b : Bool) → l.form ≡ Asked call b → b ≡ false
-    → line_of (Asked call true) l.sludge l.digester ≡ preview_line l
-preview-called l call b e h = sym (ap (λ (x : Form). preview_by x l) e ∙ ap (λ (x : Bool). preview_by (Asked call x) l) h)
-
 -- ---- a whole line
-
-module _ (s : List ℕ) {b : Bool} {from to : ℕ} where
-  pub between-preview : b ≡ true → from ≡ 9 → to ≡ length s - 1 → take (to - from) (drop from s) ≡ cond b (form_in s) s
-  between-preview t f e = (λ i. take (e i - f i) (drop (f i) s)) ∙ ap (λ (x : Bool). cond x (form_in s) s) (sym t)
-
-  pub between-line : b ≡ false → from ≡ 0 → to ≡ length s → take (to - from) (drop from s) ≡ cond b (form_in s) s
-  between-line t f e = (λ i. take (e i - f i) (drop (f i) s)) ∙ rest_of s 0 ∙ ap (λ (x : Bool). cond x (form_in s) s) (sym t)
 
 module _ (s : List ℕ) where
   pub line-preview : is_preview s ≡ true → preview_line (call_by read_fields (form_in s)) ≡ read_line s
@@ -127,6 +104,11 @@ module _ (s : List ℕ) where
   pub line-call : is_preview s ≡ false → call_by read_fields s ≡ read_line s
   unfolding read_line
   line-call h = rw h
+
+  -- b tells whether it is a preview
+  pub line-none : (b : Bool) → is_preview s ≡ b → None ≡ call_by read_fields (cond b (form_in s) s) → None ≡ read_line s
+  line-none true e q = ap preview_line q ∙ line-preview e
+  line-none false e q = q ∙ line-call e
 
   pub line-long : 1024 < length s → no_form ≡ read_line s
   unfolding is_preview
@@ -159,9 +141,9 @@ word-preview : (z : List ℕ) → form_by read_fields (ascii "preview " ++ z) �
 unfolding form_of up_to behind same_bytes look_up
 word-preview z = go (read_number z)
   where
-    go : (n : Number) → number_line (ascii "preview") n ≡ no_form
-    go (Value k) = refl
-    go NotANumber = refl
+    go : (n : Option ℕ) → number_line (ascii "preview") n ≡ no_form
+    go (Some k) = refl
+    go None = refl
 
 inner-preview : (y : ℕ) (ys : List ℕ) → inner (ascii "(preview " ++ (y ∷ ys)) ≡ ascii "preview " ++ take (length ys) (y ∷ ys)
 inner-preview y ys =
@@ -173,7 +155,7 @@ call-preview : (u : List ℕ) → is_preview u ≡ true → call_by read_fields 
 unfolding call_by in_brackets
 call-preview u e = go (drop 9 u) (preview-split u e)
   where
-    either : (b : Bool) (l : Line) → l ≡ no_form → cond b l no_form ≡ no_form
+    either : (b : Bool) (l : Option Asked) → l ≡ no_form → cond b l no_form ≡ no_form
     either true l q = q
     either false l q = refl
 
@@ -182,13 +164,13 @@ call-preview u e = go (drop 9 u) (preview-split u e)
     go (y ∷ ys) q =
         either (in_brackets u) _ (ap (form_by read_fields) (ap inner q ∙ inner-preview y ys) ∙ word-preview (take (length ys) (y ∷ ys)))
 
-preview-twice : (l : Line) → preview_line (preview_line l) ≡ no_form
-preview-twice l = go l.form
+preview-twice : (l : Option Asked) → preview_line (preview_line l) ≡ no_form
+preview-twice None = refl
+preview-twice (Some a) = go a.preview
   where
-    go : (x : Form) → preview_line (preview_by x l) ≡ no_form
-    go (Asked call true) = refl
-    go (Asked call false) = refl
-    go NotAForm = refl
+    go : (b : Bool) → preview_line (cond b no_form (Some (record { request = a.request; preview = true }))) ≡ no_form
+    go true = refl
+    go false = refl
 
 -- a call by itself, and as a line
 call_line : (u : List ℕ) → preview_line (call_by read_fields u) ≡ preview_line (read_line u)
@@ -209,14 +191,14 @@ preview-form-law u h =
 -- ---- the order of the fields
 
 -- a line of fields that are read only where they are in order
-receive-when : (b : Bool) (f : Fields) → receive_line (when_ok b f) ≡ cond b (receive_line f) no_form
+receive-when : (b : Bool) (f : Option Fields) → receive_line (cond b f None) ≡ cond b (receive_line f) no_form
 receive-when true f = refl
 receive-when false f = refl
 
-settle-when : (b : Bool) (n : Number) (f : Fields) → settle_line n (when_ok b f) ≡ cond b (settle_line n f) no_form
+settle-when : (b : Bool) (n : Option ℕ) (f : Option Fields) → settle_line n (cond b f None) ≡ cond b (settle_line n f) no_form
 settle-when true n f = refl
-settle-when false (Value g) f = refl
-settle-when false NotANumber f = refl
+settle-when false (Some g) f = refl
+settle-when false None f = refl
 
 -- the three kinds of form: with the tests of their words as they are
 form-ordered : (w t : List ℕ) → form_of read_fields w t ≡ cond (form_passes in_order w t) (form_of any_fields w t) no_form
@@ -240,10 +222,10 @@ form-ordered w t = go (same_bytes w (ascii "receive")) (same_bytes w (ascii "set
 call-ordered : (u : List ℕ) → call_by read_fields u ≡ cond (call_passes in_order u) (call_by any_fields u) no_form
 unfolding call_by
 call-ordered u =
-    ap (λ (l : Line). cond (in_brackets u) l no_form) (form-ordered (up_to 32 (inner u)) (inner u))
+    ap (λ (l : Option Asked). cond (in_brackets u) l no_form) (form-ordered (up_to 32 (inner u)) (inner u))
     ∙ cond-swap (in_brackets u) (call_passes in_order u) (form_by any_fields (inner u)) no_form
 
-preview-when : (b : Bool) (l : Line) → preview_line (cond b l no_form) ≡ cond b (preview_line l) no_form
+preview-when : (b : Bool) (l : Option Asked) → preview_line (cond b l no_form) ≡ cond b (preview_line l) no_form
 preview-when true l = refl
 preview-when false l = refl
 

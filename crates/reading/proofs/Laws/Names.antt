@@ -2,30 +2,29 @@
 --
 --   column-found, column-next, column-end   a search for a name, one name a turn
 --   column-from                             a search that begins at a later column, where no name stands twice
---   entries_at                              the entries of a table, by their places
---   entry-is, entry-length                  an entry, as the code finds it
---   entry_other                             an entry with another second byte
---   sludge-name                             the code's table of ASM1 names
+--   unpadded-length, unpadded-at            the names of a table, by their places
+--   unpadded-other                          a name with another second byte
+--   asm1-names, asm1-name, digester-names, digester-name   the code's tables
 use mathlib.Core.Bool.{Bool, true, false, cond, ◌&&◌, and-false, false≢true}
 use mathlib.Core.List.{List, [], ◌∷◌}
 use mathlib.Core.Path.{◌≡◌, refl, sym, ap, ◌∙◌}
-use Prim.Native.Nat.{ℕ, zero, suc, ◌+◌, ◌-◌, ◌*◌, ◌≤◌, ◌<◌}
+use Prim.Native.Nat.{ℕ, zero, suc, ◌+◌, ◌≤◌, ◌<◌}
 use native.Mathlib.Nat.{zero-add, add-zero}
 use native.Mathlib.Omega.{arith}
-use lib.ListN.{length, take, drop, get_or, drop_of_length-le, length-take}
+use lib.ListN.{length, drop, get_or, drop_of_length-le, length-map}
+use Rattle.std.proofs.lemmas.List.{get_or-map}
 use lib.Dec.{eqb}
-use lib.Seq.{drop-drop, get_or-take, get_or-drop}
 use borrow.Author.Tests.{ne_eqb, le-leb, lt-leb}
-use Rattle.reading.specs.declared.names.Vector.TheVariants.{Sludge}
-use Rattle.reading.specs.declared.names.Column.{Column}
-use Rattle.reading.specs.declared.names.Column.TheVariants.{At, Unknown}
-use Rattle.reading.specs.Text.{ascii, same_bytes, up_to, space}
-use Rattle.reading.specs.Names.{names_of, column_from, column_of, from_column, entry_at, entries, unknown, distinct}
+use Rattle.reading.specs.declared.names.TheConstants.{ASM1_NAMES, DIGESTER_NAMES}
+use Rattle.reading.specs.declared.names.Vector.TheVariants.{Sludge, Digester}
+use Rattle.std.proofs.Common.{Option, Some, None}
+use Rattle.reading.specs.Text.{same_bytes, up_to, space}
+use Rattle.reading.specs.Names.{names_of, column_from, column_of, from_column, unpadded, unpadded_all, unknown, distinct}
 use Rattle.vectors.proofs.Laws.Columns.{both_true}
-use Rattle.reading.proofs.Laws.Text.{head_at, same-equal, up_to-place, up_to-length}
+use Rattle.reading.proofs.Laws.Text.{head_at, same-equal}
 
 module _ (ns : List (List ℕ)) (s : List ℕ) (k i : ℕ) where
-  pub column-found : i < length ns → same_bytes s (get_or ns i []) ≡ true → column_from k (drop i ns) s ≡ At k
+  pub column-found : i < length ns → same_bytes s (get_or ns i []) ≡ true → column_from k (drop i ns) s ≡ Some k
   unfolding column_from
   column-found h e = simp (head_at ns [] i h, e)
 
@@ -33,24 +32,24 @@ module _ (ns : List (List ℕ)) (s : List ℕ) (k i : ℕ) where
   unfolding column_from
   column-next h e = simp (head_at ns [] i h, e)
 
-  pub column-end : length ns ≤ i → column_from k (drop i ns) s ≡ Unknown
+  pub column-end : length ns ≤ i → column_from k (drop i ns) s ≡ None
   unfolding column_from
   column-end h = simp (drop_of_length-le ns h)
 
 -- ---- a search that begins at a later column
 
-absent-case : (b : Bool) (x : Column) (j k : ℕ) {y : Column} → (unknown x ≡ true → y ≡ Unknown)
-    → unknown (cond b (At j) x) ≡ true → cond b (At k) y ≡ Unknown
+absent-case : (b : Bool) (x : Option ℕ) (j k : ℕ) {y : Option ℕ} → (unknown x ≡ true → y ≡ None)
+    → unknown (cond b (Some j) x) ≡ true → cond b (Some k) y ≡ None
 absent-case true x j k f e = absurd (false≢true e)
 absent-case false x j k f e = f e
 
 -- a name that stands nowhere is found from no column on
-column-absent : (j k : ℕ) (ns : List (List ℕ)) (s : List ℕ) → unknown (column_from j ns s) ≡ true → column_from k ns s ≡ Unknown
+column-absent : (j k : ℕ) (ns : List (List ℕ)) (s : List ℕ) → unknown (column_from j ns s) ≡ true → column_from k ns s ≡ None
 unfolding column_from
 column-absent j k [] s e = refl
 column-absent j k (n ∷ ns) s e = absent-case (same_bytes s n) (column_from (j + 1) ns s) j k (column-absent (j + 1) (k + 1) ns s) e
 
-least-case : (b : Bool) (x : Column) (j k : ℕ) → j ≤ k → from_column j x ≡ x → from_column j (cond b (At k) x) ≡ cond b (At k) x
+least-case : (b : Bool) (x : Option ℕ) (j k : ℕ) → j ≤ k → from_column j x ≡ x → from_column j (cond b (Some k) x) ≡ cond b (Some k) x
 least-case true x j k h e = rw (le-leb j k h)
 least-case false x j k h e = e
 
@@ -76,11 +75,11 @@ column-skip (suc i) k (n ∷ ns) s d =
     place = omega arith
 
     -- the name is not among the later ones
-    past : same_bytes s n ≡ true → column_from (k + 1) ns s ≡ Unknown
+    past : same_bytes s n ≡ true → column_from (k + 1) ns s ≡ None
     past e = column-absent 0 (k + 1) ns s (ap (λ (x : List ℕ). unknown (column_from 0 ns x)) (same-equal s n e) ∙ once.0)
 
     go : (b : Bool) → same_bytes s n ≡ b
-        → from_column (k + 1 + i) (column_from (k + 1) ns s) ≡ from_column (k + suc i) (cond b (At k) (column_from (k + 1) ns s))
+        → from_column (k + 1 + i) (column_from (k + 1) ns s) ≡ from_column (k + suc i) (cond b (Some k) (column_from (k + 1) ns s))
     go true e = rw (past e, lt-leb (k + suc i) k (omega arith))
     go false e = rw place
 
@@ -90,34 +89,6 @@ column-from i ns s d =
     ap (λ (j : ℕ). column_from j (drop i ns) s) (sym (zero-add i))
     ∙ column-skip i 0 ns s d
     ∙ ap (λ (j : ℕ). from_column j (column_of ns s)) (zero-add i)
-
-pub entries-length : (n : ℕ) (t : List ℕ) → length (entries n t) ≡ n
-unfolding entries
-entries-length zero t = refl
-entries-length (suc n) t = ap suc (entries-length n (drop 4 t))
-
-pub entries_at : (n : ℕ) (t : List ℕ) (c : ℕ) → c < n → get_or (entries n t) c [] ≡ entry_at t c
-unfolding entries
-entries_at zero t c h = absurd (omega arith)
-entries_at (suc n) t zero h = refl
-entries_at (suc n) t (suc c) h =
-    entries_at n (drop 4 t) c (omega arith)
-    ∙ ap (λ (l : List ℕ). up_to space (take 4 l)) (drop-drop (4 * c) 4 t ∙ ap (λ (k : ℕ). drop k t) place)
-  where
-    place : 4 + 4 * c ≡ 4 * suc c
-    place = omega arith
-
--- the name at place c, where k is the place of the space behind it
-pub entry-is : (t : List ℕ) (c k : ℕ) → k ≡ 0 + length (up_to space (take (4 * c + 4 - 4 * c) (drop (4 * c) t)))
-    → take k (take (4 * c + 4 - 4 * c) (drop (4 * c) t)) ≡ entry_at t c
-entry-is t c k e =
-    up_to-place space (take (4 * c + 4 - 4 * c) (drop (4 * c) t)) k e ∙ ap (λ (m : ℕ). up_to space (take m (drop (4 * c) t))) four
-  where
-    four : 4 * c + 4 - 4 * c ≡ 4
-    four = omega arith
-
-pub entry-length : (t : List ℕ) (c : ℕ) → length (entry_at t c) ≤ 4
-entry-length t c = omega (arith, up_to-length space (take 4 (drop (4 * c) t)), length-take 4 (drop (4 * c) t))
 
 -- a name whose second byte is another is another name
 second-other : (b : ℕ) (s l : List ℕ) → 1 < length s → (get_or l 1 0 ≡ get_or s 1 0 → ⊥) → same_bytes s (up_to b l) ≡ false
@@ -137,21 +108,29 @@ second-other b (x ∷ (y ∷ s)) (p ∷ (q ∷ l)) h n = go (eqb p b) (eqb q b)
     go false true = and-false (eqb x p)
     go false false = ap (λ (w : Bool). eqb x p && (w && same_bytes s (up_to b l))) (ne_eqb y q (λ e. n (sym e))) ∙ and-false (eqb x p)
 
-pub entry_other : (t : List ℕ) (c : ℕ) (s : List ℕ) → 1 < length s → (get_or t (4 * c + 1) 0 ≡ get_or s 1 0 → ⊥)
-    → false ≡ same_bytes s (entry_at t c)
-entry_other t c s h n =
-    let e : get_or (take 4 (drop (4 * c) t)) 1 0 ≡ get_or t (4 * c + 1) 0 =
-    get_or-take 4 (drop (4 * c) t) 1 0 (omega arith) ∙ get_or-drop (4 * c) t 1 0 in
-    sym (second-other space s (take 4 (drop (4 * c) t)) h (λ q. n (sym e ∙ q)))
+-- ---- names of four bytes, with spaces behind a shorter one
 
--- the code's table of ASM1 names
-abbrev pub sludge_table : List ℕ
-sludge_table = ascii "si  ss  xi  xs  xbh xba xp  so  sno snh snd xnd salk"
+pub unpadded-length : (t : List (List ℕ)) → length (unpadded_all t) ≡ length t
+unpadded-length t = length-map t unpadded
 
-pub sludge-table : entries 13 sludge_table ≡ names_of Sludge
-unfolding entries up_to
-sludge-table = refl
+pub unpadded-at : (t : List (List ℕ)) (c : ℕ) → c < length t → get_or (unpadded_all t) c [] ≡ unpadded (get_or t c [])
+unpadded-at t c h = get_or-map unpadded t c [] [] h
 
--- the table of the code has the names of the columns
-pub sludge-name : (c : ℕ) → c < 13 → entry_at sludge_table c ≡ get_or (names_of Sludge) c []
-sludge-name c h = sym (entries_at 13 sludge_table c h) ∙ ap (λ (ns : List (List ℕ)). get_or ns c []) sludge-table
+-- a name whose second byte is another
+pub unpadded-other : (name s : List ℕ) → 1 < length s → (get_or name 1 0 ≡ get_or s 1 0 → ⊥) → false ≡ same_bytes s (unpadded name)
+unpadded-other name s h n = sym (second-other space s name h n)
+
+-- the code's tables have the names of the columns
+pub asm1-names : unpadded_all ASM1_NAMES ≡ names_of Sludge
+unfolding up_to
+asm1-names = refl
+
+pub digester-names : unpadded_all DIGESTER_NAMES ≡ names_of Digester
+unfolding up_to
+digester-names = refl
+
+pub asm1-name : (c : ℕ) → c < 13 → unpadded (get_or ASM1_NAMES c []) ≡ get_or (names_of Sludge) c []
+asm1-name c h = sym (unpadded-at ASM1_NAMES c h) ∙ ap (λ (ns : List (List ℕ)). get_or ns c []) asm1-names
+
+pub digester-name : (c : ℕ) → c < 26 → unpadded (get_or DIGESTER_NAMES c []) ≡ get_or (names_of Digester) c []
+digester-name c h = sym (unpadded-at DIGESTER_NAMES c h) ∙ ap (λ (ns : List (List ℕ)). get_or ns c []) digester-names

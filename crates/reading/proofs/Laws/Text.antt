@@ -1,19 +1,20 @@
 -- Laws of bytes: comparing, searching, cutting. Assumes nothing.
 --
 --   head_at                                                                       the element at i, and the rest
---   same-..                                                                       comparing two byte strings, one byte a turn
+--   same-..                                                                       comparing two byte strings
 --   look-found, look-further                                                      a word of a table: it is the first, or a further one
 --   up-here, up_next, up-past, up-end                                             a search for the first b, one byte a turn
 --   up_to-take, up_to-place, up_to-length, behind-drop, behind-next, behind-end   what a search has found, by its place
 --   rest_of                                                                       a part of a slice that goes to its end
 --   pieces-cut, pieces-last, pieces-some                                          cutting behind each b
-use mathlib.Core.Bool.{Bool, true, false, cond, and-false, false≢true}
+use mathlib.Core.Bool.{Bool, true, false, cond, ◌&&◌, false≢true}
 use mathlib.Core.List.{List, [], ◌∷◌}
 use mathlib.Core.Path.{◌≡◌, refl, sym, ap, ap₂, ◌∙◌}
 use Prim.Native.Nat.{ℕ, suc, ◌+◌, ◌-◌, ◌≤◌, ◌<◌}
 use native.Mathlib.Nat.{zero-add}
 use native.Mathlib.Numerals.{add-one}
 use native.Mathlib.Omega.{arith}
+use Rattle.std.specs.Cmp.Lexicographic.{pointwise}
 use lib.Dec.{eqb}
 use lib.ListN.{length, take, drop, get_or, drop_of_length-le, length-drop}
 use lib.Seq.{drop-cons, take_all}
@@ -29,13 +30,6 @@ rest_of s b = take_all (length s - b) (drop b s) (omega (arith, length-drop b s)
 
 -- ---- comparing
 
-pub same-lengths : (s t : List ℕ) → (length s ≡ length t → ⊥) → same_bytes s t ≡ false
-unfolding same_bytes
-same-lengths [] [] h = absurd (h refl)
-same-lengths [] (b ∷ t) h = refl
-same-lengths (a ∷ s) [] h = refl
-same-lengths (a ∷ s) (b ∷ t) h = simp (same-lengths s t (λ e. h (ap suc e)), and-false)
-
 -- what is tested as the same is the same
 pub same-equal : (s t : List ℕ) → same_bytes s t ≡ true → s ≡ t
 unfolding same_bytes
@@ -46,19 +40,28 @@ same-equal (a ∷ s) (b ∷ t) e =
     let both = both_true (eqb a b) (same_bytes s t) e in
     ap₂ (λ (x : ℕ) (l : List ℕ). x ∷ l) (eqb-true a b both.0) (same-equal s t both.1)
 
-module _ (s t : List ℕ) (i : ℕ) where
-  pub same_step : i < length s → i < length t → get_or s i 0 ≡ get_or t i 0
-      → same_bytes (drop i s) (drop i t) ≡ same_bytes (drop (i + 1) s) (drop (i + 1) t)
-  unfolding same_bytes
-  same_step h k e = simp (head_at s 0 i h, head_at t 0 i k, eq-eqb (get_or s i 0) (get_or t i 0) e)
+-- the library's test of two slices is the same
+pub same-pointwise : (s t : List ℕ) → pointwise eqb s t ≡ same_bytes s t
+unfolding same_bytes
+same-pointwise [] [] = refl
+same-pointwise [] (b ∷ t) = refl
+same-pointwise (a ∷ s) [] = refl
+same-pointwise (a ∷ s) (b ∷ t) = ap (λ (c : Bool). eqb a b && c) (same-pointwise s t)
 
-  pub same_not : i < length s → i < length t → (get_or s i 0 ≡ get_or t i 0 → ⊥) → same_bytes (drop i s) (drop i t) ≡ false
-  unfolding same_bytes
-  same_not h k e = simp (head_at s 0 i h, head_at t 0 i k, ne_eqb (get_or s i 0) (get_or t i 0) e)
+eqb-swap : (a b : ℕ) → eqb a b ≡ eqb b a
+eqb-swap a b = go (eqb b a) refl
+  where
+    go : (t : Bool) → eqb b a ≡ t → eqb a b ≡ t
+    go true e = eq-eqb a b (sym (eqb-true b a e))
+    go false e = ne_eqb a b (λ q. false≢true (sym e ∙ eq-eqb b a (sym q)))
 
-  pub same_end : length s ≤ i → length t ≤ i → same_bytes (drop i s) (drop i t) ≡ true
-  unfolding same_bytes
-  same_end h k = simp (drop_of_length-le s h, drop_of_length-le t k)
+-- and with the sides the other way round, as its test of a beginning has them
+pub same-swapped : (s t : List ℕ) → pointwise eqb s t ≡ same_bytes t s
+unfolding same_bytes
+same-swapped [] [] = refl
+same-swapped [] (b ∷ t) = refl
+same-swapped (a ∷ s) [] = refl
+same-swapped (a ∷ s) (b ∷ t) = (λ i. eqb-swap a b i && same-swapped s t i)
 
 -- ---- looking a word up
 

@@ -1,311 +1,274 @@
 -- Laws of sheets. Assumes nothing.
 --
---   readings-length, readings-column                          the readings of a sheet: how many, and the one at a column
---   missing-le, scales-le                                     an entry is not sampled once at most; the highest scale
---   first_next, first-here, sum-next                          a list's first number that is not 0, and its sum, one column on
---   ReadTo, read-..                                           where the loop over a sheet stands: its start, one turn, a bad column, its end
---   counts-within, limits-within                              CountsWithinLaw, and the same of the limits
---   unseen-added, received-.., sheet-received, sheet-turned   the steps of the call
---   sheet-tests, sheet-refused, sheet-adds                    SheetTestsLaw, SheetRefusedLaw, SheetAddsLaw
---   sheet-plant                                               the record behind a sheet
-use mathlib.Core.Bool.{true, cond}
-use mathlib.Core.List.{List, [], ◌∷◌, map}
-use mathlib.Core.Path.{◌≡◌, refl, sym, ap, ◌∙◌, subst}
-use Prim.Native.Nat.{ℕ, zero, suc, ◌+◌, ◌≤◌, ◌<◌, zero-le}
-use native.Mathlib.Nat.{zero-add, add-zero}
+--   scale-at                                     the scale of a column in the code's table
+--   readings-length, reading-at                  the readings of a sheet: how many, and the one at a column
+--   collected-..                                 a list of readings of which none is refused, and one with a refusal in it
+--   read-more, read-stop, read-end               where the loop over a sheet stands: one turn, a bad column, its end
+use mathlib.Core.Bool.{Bool, true, false, cond}
+use mathlib.Core.List.{List, [], ◌∷◌, ◌++◌, map}
+use mathlib.Core.Path.{◌≡◌, refl, sym, ap, ◌∙◌}
+use Prim.Native.Nat.{ℕ, suc, ◌+◌, ◌≤◌, ◌<◌}
+use borrow.Author.Tests.{le-leb}
 use native.Mathlib.Numerals.{add-one}
 use native.Mathlib.Omega.{arith}
-use lib.Dec.{eqb}
-use lib.ListN.{length, get_or, drop, set, length-map, drop_of_length-le}
-use lib.Seq.{drop-cons}
-use borrow.Author.Tests.{ne_eqb, le-leb}
+use lib.ListN.{length, get_or, take, drop, set, length-map, take-append-drop}
+use lib.Seq.{drop-cons, take-suc, take-suc-set, take_all}
+use Rattle.std.specs.Prelude.{Float, zip, count_by, Option, None, Some, Result, Ok, Err}
+use Rattle.std.proofs.lemmas.List.{get_or-map, map-append}
+use Rattle.std.proofs.lemmas.List.Sums.{sum_by-cons}
+use Rattle.std.proofs.lemmas.Slice.Zip.{get_or-zip, length-zip}
+use Rattle.refusals.specs.declared.Refusal.{Refusal}
+use Rattle.refusals.specs.Tests as sent
 use Rattle.vectors.specs.declared.figures.Figures.{Figures}
 use Rattle.vectors.specs.declared.units.Milligrams.{Milligrams}
 use Rattle.vectors.specs.Columns.{asm1_ceilings, within, Below, added}
 use Rattle.vectors.specs.Totals.{asm1_cod, asm1_oxygen}
 use Rattle.vectors.specs.Units.{milligrams}
-use Rattle.vectors.proofs.Laws.Columns.{Filled, filled_none, filled_more, filled-all, within-top, within-below}
+use Rattle.vectors.proofs.Laws.Columns.{within-below}
 use Rattle.plant.specs.declared.record.Plant.{Plant}
 use Rattle.plant.specs.declared.answer.Outcome.{Outcome}
-use Rattle.plant.specs.Record.{no_columns, record_within}
-use Rattle.plant.specs.Answer.{told, unless, first}
-use Rattle.plant.specs.Calls.{receive, step_by, step, receiving}
-use Rattle.plant.proofs.Laws.Calls.{exact}
-use Rattle.plant.proofs.Laws.Decision.{number-case, number-none, number-some, decide-case, first-number, first-sent}
-use Rattle.sheets.specs.declared.finding.Finding.{Finding}
-use Rattle.sheets.specs.declared.finding.Finding.TheVariants.{Measured, BelowLimit, NotSampled}
-use Rattle.sheets.specs.declared.finding.Reading.{Reading}
-use Rattle.sheets.specs.declared.sheet.SheetCounts.{SheetCounts}
+use Rattle.plant.specs.Record.{record_within}
+use Rattle.plant.specs.Answer.{refused_with}
+use Rattle.plant.specs.Calls.{receive, ruled, step_by, step, receiving}
+use Rattle.plant.proofs.Laws.Calls.{sent-first}
+use Rattle.plant.proofs.Laws.Decision.{decide-case}
+use Rattle.refusals.specs.declared.Refusal.TheVariants.{RecordAbove, TankAbove}
+use Rattle.std.specs.Prelude.{is_none}
+use Rattle.std.specs.Result.{result_err, result_map_both}
 use Rattle.sheets.specs.declared.call.SheetOutcome.{SheetOutcome}
 use Rattle.sheets.specs.declared.call.Unseen.{Unseen}
-use Rattle.sheets.specs.Value.{reading_of}
-use Rattle.sheets.specs.Sheet.{scales, readings_by, readings, refusal_in, counts_of, limits_of, sum, not_sampled, unseen_of}
-use Rattle.sheets.specs.Sheet.{refused_counts, sheet_counts, unseen_by, sheet_refused, sheet_received, sheet_step}
+use Rattle.sheets.specs.declared.finding.Finding.{Finding}
+use Rattle.sheets.specs.declared.value.Scale.{Scale}
+use Rattle.sheets.specs.Value.{reading_of, count, limit, missing}
+use Rattle.sheets.specs.Sheet.{scales, per_unit, ceiling, Reading, readings, refusal_in, read_as, counts_of, limits_of, not_sampled}
+use Rattle.sheets.specs.Sheet.{unseen_by, unseen_of, collected, sheet_readings, sheet_refused, sheet_received, sheet_by, sheet_step}
 use Rattle.sheets.specs.Sheet.{CountsWithinLaw, SheetTestsLaw, SheetRefusedLaw, SheetAddsLaw}
 use Rattle.sheets.proofs.Laws.Value.{count-le, limit-le}
 
--- ---- readings
+-- ---- columns
 
-pub readings-length : (scs cs : List ℕ) (xs : List Finding) → length scs ≡ length xs → length cs ≡ length xs
-    → length (readings_by scs cs xs) ≡ length xs
-unfolding readings_by
-readings-length [] cs [] d e = refl
-readings-length [] cs (x ∷ xs) d e = absurd (omega arith)
-readings-length (a ∷ scs) [] [] d e = refl
-readings-length (a ∷ scs) [] (x ∷ xs) d e = absurd (omega arith)
-readings-length (a ∷ scs) (c ∷ cs) [] d e = refl
-readings-length (a ∷ scs) (c ∷ cs) (x ∷ xs) d e = ap suc (readings-length scs cs xs (omega arith) (omega arith))
+pub scale-at : (zs : List Scale) (i : ℕ) (z : Scale) → i < 13 → map per_unit zs ≡ scales → map ceiling zs ≡ asm1_ceilings
+    → (per_unit (get_or zs i z) ≡ get_or scales i 0) × (ceiling (get_or zs i z) ≡ get_or asm1_ceilings i 0)
+scale-at zs i z h u v =
+    let l : i < length zs = omega (arith, length-map zs per_unit, ap length u) in (
+      sym (get_or-map per_unit zs i z 0 l) ∙ ap (λ (ns : List ℕ). get_or ns i 0) u,
+      sym (get_or-map ceiling zs i z 0 l) ∙ ap (λ (ns : List ℕ). get_or ns i 0) v,
+    )
 
--- a number of each reading, at a column
-pub readings-column : (g : Reading → ℕ) (scs cs : List ℕ) (xs : List Finding) (y : Finding) (i : ℕ)
-    → length scs ≡ length xs → length cs ≡ length xs → i < length xs
-    → get_or (map g (readings_by scs cs xs)) i 0 ≡ g (reading_of (get_or scs i 0) (get_or cs i 0) (get_or xs i y))
-unfolding readings_by
-readings-column g scs cs [] y i d e h = absurd (omega arith)
-readings-column g [] cs (x ∷ xs) y i d e h = absurd (omega arith)
-readings-column g (a ∷ scs) [] (x ∷ xs) y i d e h = absurd (omega arith)
-readings-column g (a ∷ scs) (c ∷ cs) (x ∷ xs) y zero d e h = refl
-readings-column g (a ∷ scs) (c ∷ cs) (x ∷ xs) y (suc i) d e h =
-    readings-column g scs cs xs y i (omega arith) (omega arith) (omega arith)
+module _ (s : List (Finding Float)) (n : length s ≡ 13) where
+  pub readings-length : length (readings s) ≡ 13
+  unfolding readings
+  readings-length = length-map _ _ ∙ omega (arith, length-zip (zip scales asm1_ceilings) s)
 
-pub missing-le : (scale ceiling : ℕ) (x : Finding) → (reading_of scale ceiling x).missing ≤ 1
-unfolding reading_of
-missing-le scale ceiling (Measured x) = zero-le
-missing-le scale ceiling (BelowLimit x) = zero-le
-missing-le scale ceiling NotSampled = omega arith
+  pub reading-at : (i : ℕ) (d : Reading) (x : Finding Float) → i < 13
+      → get_or (readings s) i d ≡ reading_of (get_or scales i 0) (get_or asm1_ceilings i 0) (get_or s i x)
+  unfolding readings
+  reading-at i d x h =
+      let l : i < length s = omega arith in
+      let k : i < length (zip (zip scales asm1_ceilings) s) = omega (arith, length-zip (zip scales asm1_ceilings) s) in
+      get_or-map _ (zip (zip scales asm1_ceilings) s) i ((0, 0), x) d k
+      ∙ rw (get_or-zip (zip scales asm1_ceilings) s i ((0, 0), x) h l, get_or-zip scales asm1_ceilings i (0, 0) h h)
 
--- every scale is that of ticks or less
-pub scales-le : (i : ℕ) → get_or scales i 0 ≤ 10000000
-unfolding within
-scales-le i = within-top scales scales refl i
+  -- as the code reads it
+  pub read-at : (i : ℕ) (d : Reading) (x : Finding Float) → i < 13 → {a c : ℕ}
+      → (a ≡ get_or scales i 0) × (c ≡ get_or asm1_ceilings i 0)
+      → {r : Reading} → r ≡ reading_of a c (get_or s i x) → get_or (readings s) i d ≡ r
+  read-at i d x h at e = reading-at i d x h ∙ (λ j. reading_of (sym at.0 j) (sym at.1 j) (get_or s i x)) ∙ sym e
 
--- ---- lists, one column on
+-- ---- a list of readings
 
-module _ (ns : List ℕ) (i : ℕ) (h : i < length ns) where
-  drop-next : drop i ns ≡ get_or ns i 0 ∷ drop (i + 1) ns
-  drop-next = rw add-one (drop-cons ns i 0 h)
+module _ {A : Type 0} where
+  pub collected-all : (xs : List A) → collected (map Ok xs) ≡ Ok xs
+  collected-all [] = refl
+  collected-all (x ∷ xs) = rw (collected-all xs)
 
-  pub first_next : get_or ns i 0 ≡ 0 → first (drop (i + 1) ns) ≡ first (drop i ns)
-  unfolding first
-  first_next e = sym (ap first (drop-next ∙ ap (λ (n : ℕ). n ∷ drop (i + 1) ns) e))
+  pub collected-stop : (xs : List A) (r : Refusal) (ts : List (Result A Refusal)) → collected (map Ok xs ++ (Err r ∷ ts)) ≡ Err r
+  collected-stop [] r ts = refl
+  collected-stop (x ∷ xs) r ts = rw (collected-stop xs r ts)
 
-  pub first-here : (get_or ns i 0 ≡ 0 → ⊥) → first (drop i ns) ≡ get_or ns i 0
-  unfolding first
-  first-here n = ap first drop-next ∙ rw (ne_eqb (get_or ns i 0) 0 n) refl
+  -- as far as i, the list ts is xs
+  module _ (ts : List (Result A Refusal)) (xs : List A) (i : ℕ) (so_far : take i ts ≡ map Ok (take i xs)) (h : i < length ts) (d : Result A Refusal) where
+    pub read-more : (x : A) → i < length xs → get_or ts i d ≡ Ok x → take (i + 1) ts ≡ map Ok (take (i + 1) (set xs i x))
+    read-more x l e =
+        rw (add-one, take-suc-set xs i x l, map-append) (take-suc ts i d h ∙ rw (so_far, e))
 
-  pub sum-next : sum (drop i ns) ≡ get_or ns i 0 + sum (drop (i + 1) ns)
-  unfolding sum
-  sum-next = ap sum drop-next
+    pub read-stop : (r : Refusal) → get_or ts i d ≡ Err r → collected ts ≡ Err r
+    read-stop r e =
+        let cut : ts ≡ map Ok (take i xs) ++ (Err r ∷ drop (suc i) ts) =
+        sym (take-append-drop i ts) ∙ rw (so_far, drop-cons ts i d h, e) in
+        ap collected cut ∙ collected-stop (take i xs) r (drop (suc i) ts)
 
--- ---- the loop
+pub read-end : {A : Type 0} (ts : List (Result A Refusal)) (xs : List A) (i : ℕ) → take i ts ≡ map Ok (take i xs) → length ts ≤ i → length xs ≤ i
+    → Ok xs ≡ collected ts
+read-end ts xs i e h l = sym (collected-all xs) ∙ ap collected (ap (map Ok) (sym (take_all i xs l)) ∙ sym e ∙ take_all i ts h)
 
-abbrev refusals : List Finding → List ℕ
-refusals s = map (λ (r : Reading). r.refusal) (readings s)
+-- what a list is that comes to its values; and the refusal of one that comes to a refusal
+pub all-collected : {A : Type 0} (ts : List (Result A Refusal)) (xs : List A) → collected ts ≡ Ok xs → ts ≡ map Ok xs
+all-collected [] xs e = let q : xs ≡ [] = cc in rw q
+all-collected {A} (Ok x ∷ ts) xs e = go (collected ts) (all-collected ts) e
+  where
+    go : (r : Result (List A) Refusal) → ((ys : List A) → r ≡ Ok ys → ts ≡ map Ok ys)
+        → result_map_both {D = Refusal} (λ ys. x ∷ ys) (λ q. q) r ≡ Ok xs → Ok x ∷ ts ≡ map Ok xs
+    go (Ok ys) h u = let v : xs ≡ x ∷ ys = cc in rw (v, h ys refl)
+    go (Err q) h u = absurd cc
+all-collected (Err r ∷ ts) xs e = absurd cc
 
-abbrev missings : List Finding → List ℕ
-missings s = map (λ (r : Reading). r.missing) (readings s)
+pub stop-collected : {A : Type 0} (ts : List (Result A Refusal)) (r : Refusal) → collected ts ≡ Err r
+    → sent.first (map (λ (t : Result A Refusal). result_err t) ts) ≡ Some r
+stop-collected [] r e = absurd cc
+stop-collected {A} (Ok x ∷ ts) r e = stop-collected ts r (go (collected ts) e)
+  where
+    go : (o : Result (List A) Refusal) → result_map_both {D = Refusal} (λ ys. x ∷ ys) (λ q. q) o ≡ Err r → o ≡ Err r
+    go (Ok ys) u = absurd cc
+    go (Err q) u = let v : q ≡ r = cc in rw v
+stop-collected (Err q ∷ ts) r e = let v : q ≡ r = cc in rw v
 
--- at the loop's head
-pub record ReadTo (s : List Finding) (counts limits : List ℕ) (missing i : ℕ) : Type 0 where
-  pub counted : Filled (counts_of s) no_columns counts i
-  pub limited : Filled (limits_of s) no_columns limits i
-  pub rest : missing + sum (drop i (missings s)) ≡ not_sampled s
-  pub few : missing ≤ i
-  pub passed : first (drop i (refusals s)) ≡ refusal_in s
+-- of a list of which none is refused
+module _ {A : Type 0} where
+  none-sent : (xs : List A) → sent.first (map (λ (t : Result A Refusal). result_err t) (map Ok xs)) ≡ None
+  none-sent [] = refl
+  none-sent (x ∷ xs) = none-sent xs
 
-module _ (s : List Finding) (n : length s ≡ 13) where
-  column-length : (g : Reading → ℕ) → length (map g (readings s)) ≡ 13
-  column-length g = length-map (readings s) g ∙ readings-length scales asm1_ceilings s (sym n) (sym n) ∙ n
+numbers-read : {B : Type 0} (g : Finding ℕ → B) (d : B) (xs : List (Finding ℕ)) → map (read_as g d) (map Ok xs) ≡ map g xs
+numbers-read g d [] = refl
+numbers-read g d (x ∷ xs) = ap (λ (ys : List _). g x ∷ ys) (numbers-read g d xs)
 
-  pub read_none : ReadTo s no_columns no_columns 0 0
-  read_none =
-      record {
-        counted = filled_none _ _ (column-length (λ (r : Reading). r.count));
-        limited = filled_none _ _ (column-length (λ (r : Reading). r.limit));
-        rest = zero-add (not_sampled s);
-        few = zero-le;
-        passed = refl;
-      }
-
-  module _ {counts limits : List ℕ} {missing i : ℕ} (l : ReadTo s counts limits missing i) (h : i < 13) (y : Finding) (r : Reading)
-      (e : r ≡ reading_of (get_or scales i 0) (get_or asm1_ceilings i 0) (get_or s i y)) where
-    column : (g : Reading → ℕ) → g r ≡ get_or (map g (readings s)) i 0
-    column g = ap g e ∙ sym (readings-column g scales asm1_ceilings s y i (sym n) (sym n) (omega arith))
-
-    inside : (g : Reading → ℕ) → i < length (map g (readings s))
-    inside g = omega (arith, column-length g)
-
-    pub read_next : r.refusal ≡ 0 → ReadTo s (set counts i r.count) (set limits i r.limit) (missing + r.missing) (i + 1)
-    read_next z =
-        let g : Reading → ℕ = λ r. r.missing in
-        let k : Reading → ℕ = λ r. r.refusal in
-        record {
-          counted = filled_more 0 _ l.counted h (column (λ (r : Reading). r.count));
-          limited = filled_more 0 _ l.limited h (column (λ (r : Reading). r.limit));
-          rest = omega (arith, sum-next (missings s) i (inside g), column g, l.rest);
-          few = omega (arith, l.few, subst (λ (r : Reading). r.missing ≤ 1) (sym e) (missing-le _ _ (get_or s i y)));
-          passed = first_next (refusals s) i (inside k) (sym (column k) ∙ z) ∙ l.passed;
-        }
-
-    pub read-few : missing + r.missing ≤ 26
-    read-few = omega (arith, l.few, subst (λ (r : Reading). r.missing ≤ 1) (sym e) (missing-le _ _ (get_or s i y)))
-
-    pub read-stop : (r.refusal ≡ 0 → ⊥) → {o : SheetCounts} → o ≡ refused_counts r.refusal → o ≡ sheet_counts s
-    unfolding sheet_counts
-    read-stop z q =
-        let k : Reading → ℕ = λ r. r.refusal in
-        let w : r.refusal ≡ refusal_in s = column k ∙ sym (first-here (refusals s) i (inside k) (λ u. z (column k ∙ u))) ∙ l.passed in
-        q ∙ rw (ne_eqb (refusal_in s) 0 (λ u. z (w ∙ u))) (ap refused_counts w)
-
-  -- no bad column: what was filled is all
-  pub read-end : {counts limits : List ℕ} {missing i : ℕ} → ReadTo s counts limits missing i → 13 ≤ i
-      → record { refusal = 0; counts = counts; limits = limits; missing = missing } ≡ sheet_counts s
-  unfolding sheet_counts first sum
-  read-end {counts} {limits} {missing} {i} l h =
-      let g : Reading → ℕ = λ r. r.missing in
-      let k : Reading → ℕ = λ r. r.refusal in
-      let over : length (refusals s) ≤ i = omega (arith, column-length k) in
-      let under : length (missings s) ≤ i = omega (arith, column-length g) in
-      let none : refusal_in s ≡ 0 = sym l.passed ∙ ap first (drop_of_length-le (refusals s) over) in
-      let all : missing ≡ not_sampled s =
-      sym (add-zero missing)
-      ∙ ap (λ (m : List ℕ). missing + sum m) (sym (drop_of_length-le (missings s) under))
-      ∙ l.rest in
-      rw (none, filled-all l.counted h, filled-all l.limited h, all) refl
+count-read : (g : Finding ℕ → Bool) (d : Bool) (xs : List (Finding ℕ)) → count_by (read_as g d) (map Ok xs) ≡ count_by g xs
+count-read g d [] = refl
+count-read g d (x ∷ xs) =
+    sum_by-cons _ (Ok x) (map Ok xs) ∙ ap (λ (n : ℕ). cond (g x) 1 0 + n) (count-read g d xs) ∙ sym (sum_by-cons _ x xs)
 
 -- ---- ceilings
 
-columns-within : (g : Reading → ℕ) → ((scale ceiling : ℕ) (x : Finding) → g (reading_of scale ceiling x) ≤ ceiling)
-    → (scs cs : List ℕ) (xs : List Finding) → within cs (map g (readings_by scs cs xs)) ≡ true
-unfolding readings_by within
+columns-within : (g : Reading → ℕ) → ((scale ceiling : ℕ) (x : Finding Float) → g (reading_of scale ceiling x) ≤ ceiling)
+    → (scs cs : List ℕ) (xs : List (Finding Float)) → within cs (map g (map (λ p. reading_of p.0.0 p.0.1 p.1) (zip (zip scs cs) xs))) ≡ true
+unfolding within
 columns-within g h [] cs xs = refl
 columns-within g h (a ∷ scs) [] xs = refl
 columns-within g h (a ∷ scs) (c ∷ cs) [] = refl
 columns-within g h (a ∷ scs) (c ∷ cs) (x ∷ xs) = rw (le-leb (g (reading_of a c x)) c (h a c x)) (columns-within g h scs cs xs)
 
 pub counts-within : CountsWithinLaw
-counts-within s = columns-within (λ r. r.count) count-le scales asm1_ceilings s
+unfolding readings
+counts-within s = columns-within (read_as count 0) count-le scales asm1_ceilings s
 
-limits-within : (s : List Finding) → within asm1_ceilings (limits_of s) ≡ true
-limits-within s = columns-within (λ r. r.limit) limit-le scales asm1_ceilings s
+limits-within : (s : List (Finding Float)) → within asm1_ceilings (limits_of s) ≡ true
+unfolding readings
+limits-within s = columns-within (read_as limit 0) limit-le scales asm1_ceilings s
 
 -- ---- the call
 
 -- the totals, as they are added up
-pub unseen-added : (v : List ℕ) (n : ℕ) {cod all : Milligrams} → cod.0 ≡ asm1_cod v → all.0 ≡ cod.0 + asm1_oxygen v
+pub unseen-added : (v : List ℕ) (n : ℕ) {all : Milligrams} → all.0 ≡ asm1_cod v + asm1_oxygen v
     → record { milligrams = all; ticks = (unseen_by v n).ticks; millimoles = (unseen_by v n).millimoles; unsampled = n } ≡ unseen_by v n
 unfolding unseen_by
-unseen-added v n c e =
-    ap (λ (m : ℕ). record { milligrams = milligrams m; ticks = (unseen_by v n).ticks; millimoles = (unseen_by v n).millimoles; unsampled = n })
-    (e ∙ ap (λ (m : ℕ). m + asm1_oxygen v) c)
+unseen-added v n e =
+    ap (λ (m : ℕ). record { milligrams = milligrams m; ticks = (unseen_by v n).ticks; millimoles = (unseen_by v n).millimoles; unsampled = n }) e
 
--- behind receive: none of its refusals applied, or one did
-module _ (w : Unseen) (o : Outcome) (n : ℕ) (e : n ≡ (told o.answer).number) where
-  pub received_none : n ≡ 0 → {u : Unseen} → u ≡ w → record { refusal = 0; unseen = u; plant = o.plant } ≡ sheet_received w o
-  received_none z v = ap (λ (u : Unseen). record { refusal = 0; unseen = u; plant = o.plant }) v ∙ rw (sym e ∙ z) refl
+-- by the readings of a sheet
+module _ (s : List (Finding Float)) (xs : List (Finding ℕ)) (e : Ok xs ≡ sheet_readings s) where
+  all-read : readings s ≡ map Ok xs
+  all-read = all-collected (readings s) xs (sym e)
 
-  pub received-refused : (n ≡ 0 → ⊥) → {r : SheetOutcome} → r ≡ sheet_refused o.plant n → r ≡ sheet_received w o
-  received-refused z v =
-      v ∙ ap (sheet_refused o.plant) e ∙ rw (ne_eqb (told o.answer).number 0 (λ u. z (e ∙ u))) refl
+  pub limits-below : Below asm1_ceilings (map limit xs)
+  limits-below =
+      within-below asm1_ceilings (map limit xs)
+      (ap (within asm1_ceilings) (sym (ap (map (read_as limit 0)) all-read ∙ numbers-read limit 0 xs)) ∙ limits-within s)
 
--- what the refusal of its counts tells of a sheet
-module _ (s : List Finding) (c : SheetCounts) (e : c ≡ sheet_counts s) where
-  counts-refusal : c.refusal ≡ refusal_in s
-  unfolding sheet_counts
-  counts-refusal = ap (λ (d : SheetCounts). d.refusal) e ∙ go (refusal_in s) refl
-    where
-      go : (n : ℕ) → refusal_in s ≡ n → (sheet_counts s).refusal ≡ refusal_in s
-      go zero z = rw z refl
-      go (suc n) z = rw (z, ne_eqb (suc n) 0 (omega arith)) refl
+  pub sheet-received : (f : Figures) (p : Plant) {u : Unseen} {o : Outcome} {r : SheetOutcome}
+      → u ≡ unseen_by (map limit xs) (count_by missing xs) → o ≡ step f p (receiving (map count xs)) → r ≡ sheet_received u o
+      → r ≡ sheet_step f p s
+  unfolding sheet_step
+  sheet-received f p {u} {o} {r} a b c =
+      let none : refusal_in s ≡ None = ap (λ (ts : List Reading). sent.first (map (λ (t : Reading). result_err t) ts)) all-read ∙ none-sent xs in
+      let counts : counts_of s ≡ map count xs = ap (map (read_as count 0)) all-read ∙ numbers-read count 0 xs in
+      let limits : limits_of s ≡ map limit xs = ap (map (read_as limit 0)) all-read ∙ numbers-read limit 0 xs in
+      let gone : not_sampled s ≡ count_by missing xs = ap (count_by (read_as missing false)) all-read ∙ count-read missing false xs in
+      c ∙ (λ i. sheet_received (a i) (b i))
+      ∙ (λ i. sheet_received (unseen_by (sym limits i) (sym gone i)) (step f p (receiving (sym counts i))))
+      ∙ ap (λ (q : Option Refusal). sheet_by q f p s) (sym none)
 
-  counts-accepted : c.refusal ≡ 0 → c ≡ record { refusal = 0; counts = counts_of s; limits = limits_of s; missing = not_sampled s }
-  unfolding sheet_counts
-  counts-accepted z = e ∙ rw (sym counts-refusal ∙ z) refl
-
-  pub limits-below : c.refusal ≡ 0 → Below asm1_ceilings c.limits
-  limits-below z =
-      within-below asm1_ceilings c.limits
-      (ap (λ (d : SheetCounts). within asm1_ceilings d.limits) (counts-accepted z) ∙ limits-within s)
-
-  module _ (f : Figures) (p : Plant) where
-    pub sheet-received : c.refusal ≡ 0 → {o : Outcome} {r : SheetOutcome} → o ≡ step f p (receiving c.counts)
-        → r ≡ sheet_received (unseen_by c.limits c.missing) o → r ≡ sheet_step f p s
-    unfolding sheet_step
-    sheet-received z u v =
-        let w = counts-accepted z in
-        v
-        ∙ ap (sheet_received (unseen_by c.limits c.missing)) u
-        ∙ ap (λ (d : SheetCounts). sheet_received (unseen_by d.limits d.missing) (step f p (receiving d.counts))) w
-        ∙ rw (sym counts-refusal ∙ z) refl
-
-    pub sheet-turned : (c.refusal ≡ 0 → ⊥) → {r : SheetOutcome} → r ≡ sheet_refused p c.refusal → r ≡ sheet_step f p s
-    unfolding sheet_step
-    sheet-turned z v = v ∙ ap (sheet_refused p) counts-refusal ∙ rw (ne_eqb (refusal_in s) 0 (λ u. z (counts-refusal ∙ u))) refl
+pub sheet-turned : (s : List (Finding Float)) (q : Refusal) → Err q ≡ sheet_readings s → (f : Figures) (p : Plant)
+    → sheet_refused p q ≡ sheet_step f p s
+unfolding sheet_step
+sheet-turned s q e f p = ap (λ (o : Option Refusal). sheet_by o f p s) (sym (stop-collected (readings s) q (sym e)))
 
 -- ---- the claims on the call
 
--- the tests of a receive of a sheet's counts, of which the second always passes
-receive-tests : (f : Figures) (p : Plant) (s : List Finding) → (told (step f p (receiving (counts_of s))).answer).number
-    ≡ first (unless (record_within p) 1 ∷ unless (within asm1_ceilings (added p.sludge (counts_of s))) 10 ∷ [])
-unfolding receive unless first
-receive-tests f p s = exact f p (receiving (counts_of s)) ∙ rw (counts-within s) refl
+-- a test that gives nothing, behind another
+skipped : (b : Bool) (r : Refusal) (ts : List (Option Refusal)) → sent.first (sent.unless b r ∷ None ∷ ts) ≡ sent.first (sent.unless b r ∷ ts)
+skipped true r ts = refl
+skipped false r ts = refl
 
-received-refusal : (u : Unseen) (o : Outcome) → (sheet_received u o).refusal ≡ (told o.answer).number
-received-refusal u o =
-    number-case (λ (r : SheetOutcome). r.refusal ≡ (told o.answer).number) (told o.answer).number _ _ sym (λ z. refl)
+-- the refusal of a receive of a sheet's counts: its 3 never applies
+receive-tests : (f : Figures) (p : Plant) (s : List (Finding Float)) → refused_with (step f p (receiving (counts_of s))).answer
+    ≡ sent.first
+    (sent.unless (record_within p) RecordAbove ∷ sent.unless (within asm1_ceilings (added p.sludge (counts_of s))) TankAbove ∷ [])
+unfolding receive
+receive-tests f p s =
+    sent-first f p (receiving (counts_of s))
+    ∙ rw (counts-within s)
+    (skipped (record_within p) RecordAbove (sent.unless (within asm1_ceilings (added p.sludge (counts_of s))) TankAbove ∷ []))
+
+told-err : {A : Type 0} (o : Option Refusal) (x : A) → result_err (sent.decide o x) ≡ o
+told-err None x = refl
+told-err (Some r) x = refl
+
+-- by the refusal in the sheet
+module _ (f : Figures) (p : Plant) (s : List (Finding Float)) where
+  sheet-case : (P : SheetOutcome → Type 0)
+      → (refusal_in s ≡ None → P (sheet_received (unseen_of s) (step f p (receiving (counts_of s)))))
+      → ((r : Refusal) → refusal_in s ≡ Some r → P (sheet_refused p r)) → P (sheet_step f p s)
+  unfolding sheet_step
+  sheet-case P g h = go (refusal_in s) refl
+    where
+      go : (o : Option Refusal) → refusal_in s ≡ o → P (sheet_by o f p s)
+      go None e = g e
+      go (Some r) e = h r e
+
+  pub sheet-plant : (sheet_step f p s).plant ≡ cond (is_none (refusal_in s)) (step f p (receiving (counts_of s))).plant p
+  sheet-plant =
+      sheet-case (λ r. r.plant ≡ cond (is_none (refusal_in s)) (step f p (receiving (counts_of s))).plant p)
+      (λ e. rw e)
+      (λ r e. rw e)
 
 pub sheet-tests : SheetTestsLaw
-unfolding sheet_step
 sheet-tests f p s =
-    let o = step f p (receiving (counts_of s)) in
-    let ns = unless (record_within p) 1 ∷ unless (within asm1_ceilings (added p.sludge (counts_of s))) 10 ∷ [] in
-    number-case (λ (r : SheetOutcome). r.refusal ≡ first (refusal_in s ∷ ns)) (refusal_in s) _ _
-    (λ z. first-number (refusal_in s) ns z (received-refusal (unseen_of s) o ∙ receive-tests f p s))
-    (λ z. first-sent (refusal_in s) ns z)
+    let ts = sent.unless (record_within p) RecordAbove ∷ sent.unless (within asm1_ceilings (added p.sludge (counts_of s))) TankAbove ∷ [] in
+    sheet-case f p s (λ r. result_err r.told ≡ sent.first (refusal_in s ∷ ts))
+    (λ e. told-err (refused_with (step f p (receiving (counts_of s))).answer) (unseen_of s) ∙ receive-tests f p s ∙ rw e refl)
+    (λ r e. rw e)
 
--- a receive, by its number
-receive-refused : (f : Figures) (p : Plant) (v : List ℕ)
-    → let o = step f p (receiving v) in ((told o.answer).number ≡ 0 → ⊥) → o.plant ≡ p
-unfolding step_by receive
-receive-refused f p v =
-    decide-case (λ (o : Outcome). ((told o.answer).number ≡ 0 → ⊥) → o.plant ≡ p) p _ _ (λ e h. absurd (h refl)) (λ e h. refl)
+-- a receive gives its refusal and the record back, or adds
+module _ (f : Figures) (p : Plant) (v : List ℕ) (u : Unseen) where
+  receive-refused : (r : Refusal) → let o = step f p (receiving v) in (sheet_received u o).told ≡ Err r → sheet_received u o ≡ sheet_refused p r
+  unfolding step_by ruled receive
+  receive-refused r =
+      let rule = receive p v in
+      decide-case (λ (o : Outcome). (sheet_received u o).told ≡ Err r → sheet_received u o ≡ sheet_refused p r) p (sent.first rule.tests) rule.done
+      (λ e h. absurd (cc h))
+      (λ q h. let w : q ≡ r = cc h in rw w refl)
 
-receive-adds : (f : Figures) (p : Plant) (v : List ℕ) → let o = step f p (receiving v) in (told o.answer).number ≡ 0
-    → o.plant ≡ record { sludge = added p.sludge v; digester = p.digester; reject = p.reject }
-unfolding step_by receive
-receive-adds f p v =
-    let q : Plant = record { sludge = added p.sludge v; digester = p.digester; reject = p.reject } in
-    decide-case (λ (o : Outcome). (told o.answer).number ≡ 0 → o.plant ≡ q) p _ _ (λ e h. refl) (λ e h. absurd (e h))
+  receive-adds : (w : Unseen) → let o = step f p (receiving v) in (sheet_received u o).told ≡ Ok w
+      → sheet_received u o ≡ record { told = Ok u; plant = record { sludge = added p.sludge v; digester = p.digester; reject = p.reject } }
+  unfolding step_by ruled receive
+  receive-adds w =
+      let rule = receive p v in
+      let q : Plant = record { sludge = added p.sludge v; digester = p.digester; reject = p.reject } in
+      decide-case (λ (o : Outcome). (sheet_received u o).told ≡ Ok w → sheet_received u o ≡ record { told = Ok u; plant = q }) p
+      (sent.first rule.tests) rule.done
+      (λ e h. refl)
+      (λ r h. absurd (cc h))
 
 pub sheet-refused : SheetRefusedLaw
-unfolding sheet_step
-sheet-refused f p s =
-    let v = counts_of s in
-    let n = (told (step f p (receiving v)).answer).number in
-    let P : SheetOutcome → Type 0 = λ r. (r.refusal ≡ 0 → ⊥) → r ≡ sheet_refused p r.refusal in
-    number-case P (refusal_in s) _ _
-    (λ z. number-case P n _ _ (λ y h. absurd (h refl)) (λ y h. ap (λ (q : Plant). sheet_refused q n) (receive-refused f p v y)))
-    (λ z h. refl)
+sheet-refused f p s r =
+    sheet-case f p s (λ o. o.told ≡ Err r → o ≡ sheet_refused p r)
+    (λ e h. receive-refused f p (counts_of s) (unseen_of s) r h)
+    (λ q e h. let v : q ≡ r = cc in rw v)
 
 pub sheet-adds : SheetAddsLaw
-unfolding sheet_step
-sheet-adds f p s =
-    let v = counts_of s in
-    let n = (told (step f p (receiving v)).answer).number in
-    let P : SheetOutcome → Type 0 =
-    λ r. r.refusal ≡ 0 → r.plant ≡ record { sludge = added p.sludge v; digester = p.digester; reject = p.reject } in
-    number-case P (refusal_in s) _ _
-    (λ z. number-case P n _ _ (λ y h. receive-adds f p v y) (λ y h. absurd (y h)))
-    (λ z h. absurd (z h))
-
--- the record behind a sheet is that behind the receive of its counts, or the one handed in
-pub sheet-plant : (f : Figures) (p : Plant) (s : List Finding)
-    → (sheet_step f p s).plant ≡ cond (eqb (refusal_in s) 0) (step f p (receiving (counts_of s))).plant p
-unfolding sheet_step
-sheet-plant f p s =
-    let o = step f p (receiving (counts_of s)) in
-    let q = cond (eqb (refusal_in s) 0) o.plant p in
-    let received = number-case (λ (r : SheetOutcome). r.plant ≡ o.plant) (told o.answer).number _ _ (λ z. refl) (λ z. refl) in
-    number-case (λ (r : SheetOutcome). r.plant ≡ q) (refusal_in s) _ _
-    (λ z. received ∙ sym (number-none (refusal_in s) o.plant p z))
-    (λ z. sym (number-some (refusal_in s) o.plant p z))
+sheet-adds f p s u =
+    let q : Plant = record { sludge = added p.sludge (counts_of s); digester = p.digester; reject = p.reject } in
+    sheet-case f p s (λ o. o.told ≡ Ok u → o ≡ record { told = Ok (unseen_of s); plant = q })
+    (λ e h. receive-adds f p (counts_of s) (unseen_of s) u h)
+    (λ r e h. absurd cc)

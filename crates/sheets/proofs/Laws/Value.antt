@@ -1,38 +1,41 @@
 -- Laws of one value. Assumes nothing.
 --
---   count-by-value                                the count of a float, by any fraction that it is
---   fields_value                                  the fraction that a float's fields stand for, in units of 2^-149
---   fields-top                                    the highest field is an infinity's or a NaN's
---   countable-..                                  what the test "at least zero" tells: one that passes and is finite can be counted, one that fails cannot
---   bits-counted                                  what the code reads off the bits is the float's count
---   bits-uncounted                                the highest field, read off the bits, is that of a float that cannot be counted
---   test-uncounted, passed-number                 a test that fails; one that passes, so that the bits may be read
---   capped-.., shifted-..                         a count against its ceiling, and shifted
---   size-..                                       m × 2^k of the smallest values, scaled: for k below 149 and from there on; by the fields
---   measured-reading, limit-reading, by-finding   an entry, by its kind
---   count-le, limit-le                            neither what an entry counts as nor its limit's count is above the ceiling
-use mathlib.Core.Bool.{Bool, true, false, cond, not, ◌&&◌, ◌||◌}
+--   count-by-value                  the count of a float, by any fraction that it is
+--   fields_value                    the fraction that a float's fields stand for, in units of 2^-149
+--   fields-top                      the highest field is an infinity's or a NaN's
+--   countable-..                    what the test "at least zero" tells: a finite one that passes can be counted, one that fails cannot
+--   bits-counted                    what the code reads off the bits is the float's count
+--   bits-uncounted                  the highest field, read off the bits, is that of a float that cannot be counted
+--   test-uncounted                  a test that fails
+--   shr-or, shl-or                  a shift of 64 places or more
+--   size-..                         m × 2^k of the smallest values, scaled: for k below 149, and from there on
+--   counted-le, count-le, limit-le  no count is above the ceiling, neither what an entry counts as nor its limit's
+use mathlib.Core.Bool.{Bool, true, false, cond, ◌&&◌, ◌||◌}
 use mathlib.Core.Path.{◌≡◌, refl, sym, ap, ◌∙◌, subst}
 use Prim.Native.Nat.{ℕ, zero, suc, ◌+◌, ◌-◌, ◌*◌, ◌/◌, ◌%◌, ◌^◌, ◌≤◌, ◌<◌, zero-le}
-use native.Mathlib.Nat.{mul-one, zero-mul, mul_right_comm, mul_assoc, mul-pos, le-div_iff_mul-le, div-lt_iff_lt-mul}
-use native.Mathlib.Nat.{div-eq_of_lt, mul-div_cancel, lt_of_lt_of_le, le_trans, mul-le-mul_right, lt_irrefl, zero-lt-suc}
+use native.Mathlib.Nat.{le-mul_of_pos_right, mul-one, zero-mul, mul_right_comm, mul_assoc}
+use native.Mathlib.Nat.{div-eq_of_lt, mod-eq_of_lt, mul-div_cancel, lt_of_lt_of_le, mul-le-mul_right, zero-lt-suc}
 use native.Mathlib.Omega.{arith}
 use lib.Dec.{T, eqb, leb, eqb→eq}
 use lib.IntN.{ℤ, pos}
 use lib.Pow.{pow_pos, pow-add, pow_mono}
-use lib.Ieee.{Float, nan, inf, fin, up, down, binary32, fits, of_bits, of_fields, odd, to_bits, is_nan, le, lt, eq}
+use lib.Ieee.{Float, nan, inf, fin, up, down, binary32, fits, of_bits, of_fields, odd, to_bits, le, lt, eq}
 use lib.Ieee.Bits.{of_bits-to_bits, is_true}
 use lib.Ieee.Exact.{HasValue, odd_sign}
 use lib.Ieee.Fits.{up_pos, down_pos}
 use lib.Ieee.Nearest.{div_same}
 use lib.Ieee.Order.{le_of_values}
-use borrow.Author.Tests.{leb-true, le-leb, lt-leb, ne_eqb}
+use borrow.Author.Tests.{leb-true, ne_eqb}
 use Rattle.vectors.proofs.Laws.Columns.{both_true}
-use Rattle.sheets.specs.declared.value.Counted.{Counted}
+use Rattle.std.specs.Prelude.{Option, None, Some, Result, Ok, Err}
+use Rattle.std.specs.Option.{SomeIff, unwrap_or}
+use Rattle.std.specs.Result.{result_map_both}
+use Rattle.refusals.specs.declared.Refusal.{Refusal}
+use Rattle.refusals.specs.declared.Refusal.TheVariants.{NoAmount, CountAbove}
 use Rattle.sheets.specs.declared.finding.Finding.{Finding}
-use Rattle.sheets.specs.declared.finding.Reading.{Reading}
 use Rattle.sheets.specs.declared.finding.Finding.TheVariants.{Measured, BelowLimit, NotSampled}
-use Rattle.sheets.specs.Value.{countable, count_of, capped, uncounted, counted_of, size_of, reading_of}
+use Rattle.sheets.specs.Value.{countable, count_of, capped, counted_of, size_of, reading_of, count, limit}
+use Rattle.sheets.specs.Sheet.{read_as}
 
 -- ---- the exact value
 
@@ -71,8 +74,7 @@ zero_float = fin false 0 (pos 0)
 
 -- a product with a factor that is not zero
 no-product : (m u : ℕ) → 0 < u → m * u ≡ 0 → m ≡ 0
-no-product zero u h e = refl
-no-product (suc m) u h e = absurd (lt_irrefl 0 (subst (λ (n : ℕ). 0 < n) e (mul-pos (zero-lt-suc m) h)))
+no-product m u h e = omega (arith, le-mul_of_pos_right m h)
 
 -- minus zero is level with zero, and no other negative number is
 level-zero : (a b : ℕ) → (eqb a b && (false || eqb a 0)) ≡ true → b ≡ 0
@@ -89,7 +91,7 @@ countable-passed (fin true m z) s a c v e =
     rw (no-product m (up z) (up_pos z) (sym (mul-one (m * up z)) ∙ level-zero (0 * 1 * down z) (m * up z * 1) e))
 
 true-false : true ≡ false → ⊥
-true-false e = let z : ◌≡◌ {A = ℕ} 0 1 = cc in omega arith
+true-false e = cc
 
 minus-zero : (z : ℤ) → le zero_float (fin true 0 z) ≡ true
 unfolding le lt eq
@@ -128,7 +130,7 @@ bits-counted x scale ceiling h p l =
     (ap (capped ceiling) (sym (count-by-value x s (size_of field digits) (2 ^ 149) scale (pow_pos 149) v)))
 
 pub bits-uncounted : (x : Float) (scale ceiling : ℕ) → T (fits binary32 x)
-    → let b = to_bits binary32 x in 255 ≤ b % 2147483648 / 8388608 → uncounted 13 ≡ counted_of scale ceiling x
+    → let b = to_bits binary32 x in 255 ≤ b % 2147483648 / 8388608 → Err NoAmount ≡ counted_of scale ceiling x
 unfolding counted_of
 bits-uncounted x scale ceiling h l =
     let b = to_bits binary32 x in
@@ -136,38 +138,28 @@ bits-uncounted x scale ceiling h l =
     let e : countable x ≡ false = ap countable (bits-fields x h) ∙ fields-top (leb 2147483648 b) field (b % 8388608) (omega arith) in
     rw e
 
-pub test-uncounted : (x : Float) (scale ceiling : ℕ) → le zero_float x ≡ false → uncounted 13 ≡ counted_of scale ceiling x
+pub test-uncounted : (x : Float) (scale ceiling : ℕ) → le zero_float x ≡ false → Err NoAmount ≡ counted_of scale ceiling x
 unfolding counted_of
 test-uncounted x scale ceiling e = rw (countable-failed x e)
 
--- a value that is at least zero is a number
-pub passed-number : (x : Float) → le zero_float x ≡ true → T (not (is_nan x))
-unfolding le lt eq is_nan
-passed-number nan e = absurd (true-false (sym e))
-passed-number (inf s) e = tt
-passed-number (fin s m z) e = tt
+-- ---- shifts
 
--- ---- ceilings and shifts
-
-pub capped-in : (ceiling n : ℕ) → n ≤ ceiling → record { refusal = 0; count = n } ≡ capped ceiling n
-capped-in ceiling n h = rw (le-leb n ceiling h)
-
-pub capped-out : (ceiling n : ℕ) → ceiling < n → uncounted 14 ≡ capped ceiling n
-capped-out ceiling n h = rw (lt-leb n ceiling h)
-
--- n × 2^by is within the ceiling where n is within the ceiling shifted down
-pub shifted_in : (ceiling n by : ℕ) → n ≤ ceiling / 2 ^ by → n * 2 ^ by ≤ ceiling
-shifted_in ceiling n by h = (le-div_iff_mul-le (pow_pos by)).0 h
-
-pub shifted-out : (ceiling n by : ℕ) → ceiling / 2 ^ by < n → ceiling < n * 2 ^ by
-shifted-out ceiling n by h = (div-lt_iff_lt-mul (pow_pos by)).0 h
-
--- from 2^64 on
-pub shifted-far : (ceiling n by : ℕ) → ceiling < 18446744073709551616 → 0 < n → 64 ≤ by → ceiling < n * 2 ^ by
-shifted-far ceiling n by c h l = lt_of_lt_of_le c (le_trans (pow_mono l) (omega (arith, mul-le-mul_right (2 ^ by) h)))
-
-pub shifted_none : (n by : ℕ) → n < 18446744073709551616 → 64 ≤ by → 0 ≡ n / 2 ^ by
+shifted_none : (n by : ℕ) → n < 18446744073709551616 → 64 ≤ by → 0 ≡ n / 2 ^ by
 shifted_none n by h l = sym (div-eq_of_lt (lt_of_lt_of_le h (pow_mono l)))
+
+-- a shift of 64 places or more leaves nothing
+pub shr-or : (o : Option ℕ) (n by : ℕ) → SomeIff o (by < 64) (n / 2 ^ by) → n < 18446744073709551616 → unwrap_or o 0 ≡ n / 2 ^ by
+shr-or None n by h l = shifted_none n by l (omega arith)
+shr-or (Some x) n by h l = h.1
+
+pub shl-or : (o : Option ℕ) (n by : ℕ) → SomeIff o (by < 64) (n * 2 ^ by % 18446744073709551616) → n * 2 ^ by < 18446744073709551616
+    → unwrap_or o 0 ≡ n * 2 ^ by
+shl-or None zero by h l = sym (zero-mul (2 ^ by))
+shl-or None (suc n) by h l =
+    let far : 2 ^ 64 ≤ 2 ^ by = let e : 64 ≤ by = omega arith in pow_mono e in
+    let more : 1 * 2 ^ by ≤ suc n * 2 ^ by = mul-le-mul_right (2 ^ by) (omega arith) in
+    absurd (omega arith)
+shl-or (Some x) n by h l = h.1 ∙ mod-eq_of_lt l
 
 -- m × 2^k of the smallest values, scaled
 pub size-down : (m k scale : ℕ) → k < 149 → m * scale / 2 ^ (149 - k) ≡ m * 2 ^ k * scale / 2 ^ 149
@@ -186,50 +178,32 @@ size-up m k scale h =
     ∙ ap (λ (n : ℕ). m * scale * n) (sym (pow-add 2 (k - 149) 149) ∙ ap (λ (j : ℕ). 2 ^ j) (omega arith))
     ∙ mul_right_comm m scale (2 ^ k))
 
--- by a field of 0 and by any other
-module _ (field digits scale ceiling : ℕ) where
-  pub size_none : field ≡ 0 → capped ceiling (digits * 2 ^ 0 * scale / 2 ^ 149) ≡ capped ceiling (size_of field digits * scale / 2 ^ 149)
-  size_none e = rw (e, mul-one)
-
-  pub size-some : (field ≡ 0 → ⊥)
-      → capped ceiling ((8388608 + digits) * 2 ^ (field - 1) * scale / 2 ^ 149) ≡ capped ceiling (size_of field digits * scale / 2 ^ 149)
-  size-some h = rw (ne_eqb field 0 h)
-
 -- ---- an entry
 
-pub measured-reading : (x : Float) (scale ceiling : ℕ) {c : Counted} → c ≡ counted_of scale ceiling x
-    → record { refusal = c.refusal; count = c.count; limit = 0; missing = 0 } ≡ reading_of scale ceiling (Measured x)
-unfolding reading_of
-measured-reading x scale ceiling e = ap (λ (c : Counted). record { refusal = c.refusal; count = c.count; limit = 0; missing = 0 }) e
-
-pub limit-reading : (x : Float) (scale ceiling : ℕ) {c : Counted} → c ≡ counted_of scale ceiling x
-    → record { refusal = c.refusal; count = 0; limit = c.count; missing = 0 } ≡ reading_of scale ceiling (BelowLimit x)
-unfolding reading_of
-limit-reading x scale ceiling e = ap (λ (c : Counted). record { refusal = c.refusal; count = 0; limit = c.count; missing = 0 }) e
-
--- what a match tells
-pub by-finding : (scale ceiling : ℕ) {x y : Finding} {r : Reading} → x ≡ y → r ≡ reading_of scale ceiling y → r ≡ reading_of scale ceiling x
-by-finding scale ceiling e h = h ∙ ap (reading_of scale ceiling) (sym e)
-
--- no count is above the ceiling, nor is a limit's
-counted-le : (scale ceiling : ℕ) (x : Float) → (counted_of scale ceiling x).count ≤ ceiling
+-- no count is above the ceiling
+counted-le : (scale ceiling : ℕ) (x : Float) (n : ℕ) → counted_of scale ceiling x ≡ Ok n → n ≤ ceiling
 unfolding counted_of
-counted-le scale ceiling x = go (countable x) (leb (count_of scale x) ceiling) (count_of scale x) (leb-true (count_of scale x) ceiling)
+counted-le scale ceiling x n = go (countable x) (leb (count_of scale x) ceiling) (count_of scale x) (leb-true (count_of scale x) ceiling)
   where
-    go : (a b : Bool) (n : ℕ) → (b ≡ true → n ≤ ceiling)
-        → (cond a (cond b (record { refusal = 0; count = n }) (uncounted 14)) (uncounted 13)).count ≤ ceiling
-    go true true n h = h refl
-    go true false n h = zero-le
-    go false b n h = zero-le
+    go : (a b : Bool) (m : ℕ) → (b ≡ true → m ≤ ceiling)
+        → cond a (cond b (Ok m) (Err CountAbove)) (Err NoAmount) ≡ Ok n → n ≤ ceiling
+    go true true m h e = let q : m ≡ n = cc in omega (arith, h refl)
+    go true false m h e = absurd (cc)
+    go false b m h e = absurd (cc)
 
-pub count-le : (scale ceiling : ℕ) (x : Finding) → (reading_of scale ceiling x).count ≤ ceiling
-unfolding reading_of
-count-le scale ceiling (Measured x) = counted-le scale ceiling x
-count-le scale ceiling (BelowLimit x) = zero-le
+-- nor is what an entry counts as, nor its limit's count
+module _ (f : ℕ → Finding ℕ) (g : Finding ℕ → ℕ) (ceiling : ℕ) where
+  read-le : ((n : ℕ) → n ≤ ceiling → g (f n) ≤ ceiling) → (r : Result ℕ Refusal) → ((n : ℕ) → r ≡ Ok n → n ≤ ceiling)
+      → read_as g 0 (result_map_both f (λ (e : Refusal). e) r) ≤ ceiling
+  read-le h (Ok n) k = h n (k n refl)
+  read-le h (Err e) k = zero-le
+
+pub count-le : (scale ceiling : ℕ) (x : Finding Float) → read_as count 0 (reading_of scale ceiling x) ≤ ceiling
+count-le scale ceiling (Measured x) = read-le Measured count ceiling (λ n h. h) _ (counted-le scale ceiling x)
+count-le scale ceiling (BelowLimit x) = read-le BelowLimit count ceiling (λ n h. zero-le) _ (counted-le scale ceiling x)
 count-le scale ceiling NotSampled = zero-le
 
-pub limit-le : (scale ceiling : ℕ) (x : Finding) → (reading_of scale ceiling x).limit ≤ ceiling
-unfolding reading_of
-limit-le scale ceiling (Measured x) = zero-le
-limit-le scale ceiling (BelowLimit x) = counted-le scale ceiling x
+pub limit-le : (scale ceiling : ℕ) (x : Finding Float) → read_as limit 0 (reading_of scale ceiling x) ≤ ceiling
+limit-le scale ceiling (Measured x) = read-le Measured limit ceiling (λ n h. zero-le) _ (counted-le scale ceiling x)
+limit-le scale ceiling (BelowLimit x) = read-le BelowLimit limit ceiling (λ n h. h) _ (counted-le scale ceiling x)
 limit-le scale ceiling NotSampled = zero-le

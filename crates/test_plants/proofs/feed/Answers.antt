@@ -6,11 +6,8 @@ use Rattle.vectors.proofs.Laws.Figures.{house-permitted}
 use Rattle.vectors.proofs.Laws.Draw.{drawn-below}
 use Rattle.test_plants.proofs.feed.Goals as goal
 
-pub asm1_drawn-c-requires : goal.asm1_drawn-c-requires
-asm1_drawn-c-requires c = (sym c.asm1_within.ensures ∙ c.if-asm1_within.true, lit≤ tt)
-
-pub feed_of-o-requires : goal.feed_of-o-requires
-feed_of-o-requires c = (
+pub feed_of-requires : goal.feed_of-requires
+feed_of-requires c = (
   house-permitted,
-  rw c.asm1_drawn-c.ensures (drawn-below asm1_ceilings _ 1000 (sym c.asm1_within.ensures ∙ c.if-asm1_within.true) (lit≤ tt)),
+  rw c.drawn-c.ensures (drawn-below asm1_ceilings _ 1000 (sym c.is_within.ensures ∙ c.if-is_within.true) (lit≤ tt)),
 )

@@ -6,12 +6,8 @@ use Rattle.vectors.proofs.Laws.Figures.{house-permitted}
 use Rattle.vectors.proofs.Laws.Draw.{drawn-below}
 use Rattle.test_plants.proofs.give_back.Goals as goal
 
-pub digester_drawn-c-requires : goal.digester_drawn-c-requires
-digester_drawn-c-requires c = (sym c.digester_within.ensures ∙ c.if-digester_within.true, lit≤ tt)
-
-pub return_of-o-requires : goal.return_of-o-requires
-return_of-o-requires c = (
+pub return_of-requires : goal.return_of-requires
+return_of-requires c = (
   house-permitted,
-  rw c.digester_drawn-c.ensures (drawn-below digester_ceilings _ 1000
-      (sym c.digester_within.ensures ∙ c.if-digester_within.true) (lit≤ tt)),
+  rw c.drawn-c.ensures (drawn-below digester_ceilings _ 1000 (sym c.is_within.ensures ∙ c.if-is_within.true) (lit≤ tt)),
 )

@@ -1,23 +1,26 @@
 -- Laws of vectors of columns: loops that rewrite one, ceilings, sums. Assumes nothing.
 --
 --   Filled            a loop that replaces the elements of one list by those of another, from the front
---   within-..         the ceiling test: at a column, one turn of a loop, its end, as inequalities; below-within from these
+--   within-..         the ceiling test: at a column, as a fold, as inequalities; below-within from these
+--   room-..           the ceiling test of a sum, with no sum made
 --   columns_from      columns by their places, and digester-columns by their names
 --   added-..          the sum: its length, a column
---   top, within-top   the highest ceiling of a table bounds every column
+--   Low, within-low   a table of low ceilings bounds every column
 --   added-fits        so that sums fit 64 bits
-use mathlib.Core.Bool.{Bool, true, false, cond, ◌&&◌, and-false}
+use mathlib.Core.Bool.{Bool, true, false, ◌&&◌}
+use Rattle.std.proofs.Math.Bool.{and-true, and-false, and_assoc}
+use Rattle.std.specs.List.{fold, list_all, zip}
 use mathlib.Core.List.{List, [], ◌∷◌, ◌++◌}
 use mathlib.Core.Path.{◌≡◌, refl, sym, ap, ◌∙◌}
-use Prim.Native.Nat.{ℕ, zero, suc, ◌+◌, ◌≤◌, ◌<◌, max, zero-le}
+use Prim.Native.Nat.{ℕ, zero, suc, ◌+◌, ◌-◌, ◌≤◌, ◌<◌, zero-le}
 use native.Mathlib.Nat.{le_trans, zero-add, add-zero, add-suc, suc-add}
 use native.Mathlib.Numerals.{add-one}
 use native.Mathlib.Omega.{arith}
 use lib.Dec.{leb}
 use lib.ListN.{length, get_or, take, drop, set, length-set, drop_of_length-le}
 use lib.Seq.{paste-suc, drop-paste, get_or-drop, drop-cons}
-use borrow.Author.Tests.{leb-true, le-leb, lt-leb}
-use Rattle.vectors.specs.Columns.{digester, digester_columns, within, Below, BelowFrom, added}
+use Rattle.std.proofs.lemmas.Bool.{leb-true, leb-false, le-leb, lt-leb}
+use Rattle.vectors.specs.Columns.{digester, digester_columns, within, Below, BelowFrom, added, fits}
 
 -- ---- a loop that fills
 
@@ -85,42 +88,38 @@ within-above [] (x ∷ v) i h = refl
 within-above (c ∷ cs) (x ∷ v) zero h = rw (lt-leb x c h)
 within-above (c ∷ cs) (x ∷ v) (suc i) h = rw (within-above cs v i h) (and-false (leb x c))
 
--- one turn of a test from the front
-pub within_step : (cs v : List ℕ) (i : ℕ) → length v ≡ length cs → i < length v → get_or v i 0 ≤ get_or cs i 0
-    → within (drop i cs) (drop i v) ≡ within (drop (i + 1) cs) (drop (i + 1) v)
+-- the test as a fold over the columns beside their ceilings
+pub within-folded : (cs v : List ℕ) → length v ≤ length cs → fold (λ ok p. ok && leb p.0 p.1) true (zip v cs) ≡ within cs v
 unfolding within
-within_step cs v i e h p = rw add-one (go cs v i e h p)
+within-folded cs v h = go true cs v h
   where
-    go : (cs v : List ℕ) (i : ℕ) → length v ≡ length cs → i < length v → get_or v i 0 ≤ get_or cs i 0
-        → within (drop i cs) (drop i v) ≡ within (drop (suc i) cs) (drop (suc i) v)
-    go cs [] i e h p = absurd (omega arith)
-    go [] (x ∷ v) i e h p = absurd (omega arith)
-    go (c ∷ cs) (x ∷ v) zero e h p = rw (le-leb x c p)
-    go (c ∷ cs) (x ∷ v) (suc i) e h p = go cs v i (omega arith) (omega arith) p
+    go : (b : Bool) (cs v : List ℕ) → length v ≤ length cs → fold (λ ok p. ok && leb p.0 p.1) b (zip v cs) ≡ (b && within cs v)
+    go b cs [] h = sym (and-true b)
+    go b [] (x ∷ v) h = absurd (omega arith)
+    go b (c ∷ cs) (x ∷ v) h = go (b && leb x c) cs v (omega arith) ∙ and_assoc b (leb x c) (within cs v)
 
-pub within_end : (cs v : List ℕ) (i : ℕ) → length v ≤ i → within cs (drop i v) ≡ true
-unfolding within
-within_end cs [] zero h = refl
-within_end cs [] (suc i) h = refl
-within_end cs (x ∷ v) zero h = absurd (omega arith)
-within_end cs (x ∷ v) (suc i) h = within_end cs v i (omega arith)
+-- the ceiling test of a sum, with no sum made
+fits-sum : (c x y : ℕ) → fits ((x, y), c) ≡ leb (x + y) c
+fits-sum c x y = go (leb x c) (leb y (c - x)) refl refl
+  where
+    go : (s t : Bool) → leb x c ≡ s → leb y (c - x) ≡ t → (s && t) ≡ leb (x + y) c
+    go false t e f = sym (lt-leb (x + y) c (omega (arith, leb-false x c e)))
+    go true true e f = sym (le-leb (x + y) c (omega (arith, leb-true x c e, leb-true y (c - x) f)))
+    go true false e f = sym (lt-leb (x + y) c (omega (arith, leb-true x c e, leb-false y (c - x) f)))
 
--- a test that goes on to the end
-module _ (cs v : List ℕ) (i : ℕ) {new : Bool} where
-  pub within-over : get_or cs i 0 < get_or v i 0 → new ≡ false → cond new (within (drop (i + 1) cs) (drop (i + 1) v)) false ≡ within cs v
-  within-over h e = ap (λ (t : Bool). cond t (within (drop (i + 1) cs) (drop (i + 1) v)) false) e ∙ sym (within-above cs v i h)
+pub room-within : (cs a b : List ℕ) → length a ≡ length cs → length b ≡ length cs
+    → list_all fits (zip (zip a b) cs) ≡ within cs (added a b)
+unfolding within added
+room-within cs [] [] e f = refl
+room-within cs [] (y ∷ b) e f = absurd (omega arith)
+room-within cs (x ∷ a) [] e f = absurd (omega arith)
+room-within [] (x ∷ a) (y ∷ b) e f = absurd (omega arith)
+room-within (c ∷ cs) (x ∷ a) (y ∷ b) e f = rw (fits-sum c x y, room-within cs a b (omega arith) (omega arith))
 
-  pub within_on : {ok : Bool} → length v ≡ length cs → i < length v → get_or v i 0 ≤ get_or cs i 0 → new ≡ ok
-      → cond ok (within (drop i cs) (drop i v)) false ≡ within cs v
-      → cond new (within (drop (i + 1) cs) (drop (i + 1) v)) false ≡ within cs v
-  within_on {ok} n h p e q =
-      ap (λ (t : Bool). cond t (within (drop (i + 1) cs) (drop (i + 1) v)) false) e
-      ∙ ap (λ (t : Bool). cond ok t false) (sym (within_step cs v i n h p)) ∙ q
-
-pub within-told : (ok : Bool) (cs v : List ℕ) (i : ℕ) → length v ≤ i → cond ok (within (drop i cs) (drop i v)) false ≡ within cs v
-    → ok ≡ within cs v
-within-told true cs v i h e = sym (within_end (drop i cs) v i h) ∙ e
-within-told false cs v i h e = e
+-- what that test tells, by a table ds that is cs
+pub room-told : {r : Bool} {cs ds : List ℕ} (a b : List ℕ) → r ≡ list_all fits (zip (zip a b) ds) → ds ≡ cs
+    → length a ≡ length ds → length b ≡ length ds → r ≡ within cs (added a b)
+room-told {r} {cs} {ds} a b e is p q = e ∙ room-within ds a b p q ∙ ap (λ (c : List ℕ). within c (added a b)) is
 
 -- from the test to the inequalities
 pub within-below : (cs v : List ℕ) → within cs v ≡ true → Below cs v
@@ -159,18 +158,17 @@ columns-from (suc n) i c e = ap (λ (l : List ℕ). get_or c i 0 ∷ l) (columns
 pub digester-columns : (c : List ℕ) → length c ≡ 26 → digester_columns (digester c) ≡ c
 digester-columns c e = columns-from 26 0 c (omega arith)
 
--- the highest ceiling of a table, which computes
-abbrev pub top : List ℕ → ℕ
-top [] = 0
-top (c ∷ cs) = max c (top cs)
+-- what the trait Vector tells of a table of ceilings
+abbrev pub Low : List ℕ → Type 0
+Low cs = list_all (λ c. leb c 10_000_000_000_000_000) cs ≡ true
 
-top-column : (cs : List ℕ) (i : ℕ) → get_or cs i 0 ≤ top cs
-top-column [] i = zero-le
-top-column (c ∷ cs) zero = omega arith
-top-column (c ∷ cs) (suc i) = omega (arith, top-column cs i)
+low-column : (cs : List ℕ) (i : ℕ) → Low cs → get_or cs i 0 ≤ 10_000_000_000_000_000
+low-column [] i h = zero-le
+low-column (c ∷ cs) zero h = leb-true c _ (both_true (leb c 10_000_000_000_000_000) _ h).0
+low-column (c ∷ cs) (suc i) h = low-column cs i (both_true (leb c 10_000_000_000_000_000) _ h).1
 
-pub within-top : (cs v : List ℕ) → within cs v ≡ true → (i : ℕ) → get_or v i 0 ≤ top cs
-within-top cs v e i = le_trans (within-column cs v i e) (top-column cs i)
+pub within-low : (cs v : List ℕ) → Low cs → within cs v ≡ true → (i : ℕ) → get_or v i 0 ≤ 10_000_000_000_000_000
+within-low cs v h e i = le_trans (within-column cs v i e) (low-column cs i h)
 
 -- ---- sums
 
@@ -188,9 +186,5 @@ added-length (x ∷ a) [] e = refl
 added-length (x ∷ a) (y ∷ b) e = ap suc (added-length a b (omega arith))
 
 -- a sum within its ceilings bounds its terms
-pub added-top : (cs a b : List ℕ) → within cs (added a b) ≡ true → (i : ℕ) → get_or a i 0 + get_or b i 0 ≤ top cs
-added-top cs a b e i = rw (← added-column a b i) (within-top cs (added a b) e i)
-
-pub added-fits : (cs a b : List ℕ) → top cs < 18446744073709551616 → within cs (added a b) ≡ true → (i : ℕ)
-    → get_or a i 0 + get_or b i 0 < 18446744073709551616
-added-fits cs a b h e i = omega (arith, added-top cs a b e i)
+pub added-fits : (cs a b : List ℕ) → Low cs → within cs (added a b) ≡ true → (i : ℕ) → get_or a i 0 + get_or b i 0 < 18446744073709551616
+added-fits cs a b h e i = omega (arith, added-column a b i, within-low cs (added a b) h e i)

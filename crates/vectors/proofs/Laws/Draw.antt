@@ -19,7 +19,7 @@ use borrow.Author.Tests.{leb-true, le-leb}
 use Rattle.vectors.specs.Columns.{within, Below}
 use Rattle.vectors.specs.Draw.{part, drawn}
 use Rattle.vectors.specs.Laws.{ColumnSplits}
-use Rattle.vectors.proofs.Laws.Columns.{both_true, top, within-top, within-below, Filled, filled_at, filled_more}
+use Rattle.vectors.proofs.Laws.Columns.{both_true, Low, within-low, within-below, Filled, filled_at, filled_more}
 
 pub part-le : (k x : ℕ) → k ≤ 1000 → part k x ≤ x
 part-le k x h = omega (arith, mul-le-mul_left x h)
@@ -46,8 +46,8 @@ within-drawn k h (c ∷ cs) (x ∷ v) e =
     let p = both_true (leb x c) (within cs v) e in
     rw (le-leb (part k x) c (le_trans (part-le k x h) (leb-true x c p.0))) (within-drawn k h cs v p.1)
 
-pub drawn-fits : (cs v : List ℕ) (k : ℕ) → top cs * 1000 < 18446744073709551616 → within cs v ≡ true → k ≤ 1000 → (i : ℕ) → get_or v i 0 * k < 18446744073709551616
-drawn-fits cs v k h e l i = omega (arith, mul-le-mul (within-top cs v e i) l)
+pub drawn-fits : (cs v : List ℕ) (k : ℕ) → Low cs → within cs v ≡ true → k ≤ 1000 → (i : ℕ) → get_or v i 0 * k < 18446744073709551616
+drawn-fits cs v k h e l i = omega (arith, mul-le-mul (within-low cs v h e i) l)
 
 -- what a draw asks of the vector it gives
 pub drawn-below : (cs v : List ℕ) (k : ℕ) → within cs v ≡ true → k ≤ 1000 → Below cs (drawn k v)

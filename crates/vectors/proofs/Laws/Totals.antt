@@ -2,22 +2,19 @@
 --
 --   weigh-added, weigh-split, weigh-none   a weighing is linear
 --   weigh-step, weigh-end                  one turn of a loop that weighs, and its end
---   asm1_cod-weigh, ..                     the totals as weighings
---   asm1_cod-le, ..                        bounds
 --   total-laws                             TotalLaws
 use mathlib.Core.List.{List, [], ◌∷◌}
 use mathlib.Core.Path.{◌≡◌, refl, ap}
 use Prim.Native.Nat.{ℕ, zero, suc, ◌+◌, ◌*◌, ◌≤◌, ◌<◌}
-use native.Mathlib.Nat.{mul-add, mul-zero, mul-le-mul_right}
+use native.Mathlib.Nat.{mul-add, mul-zero}
 use native.Mathlib.Numerals.{add-one}
 use native.Mathlib.Omega.{arith}
 use lib.ListN.{length, get_or, drop, replicate}
 use lib.Seq.{drop-cons, drop-length}
-use Rattle.vectors.specs.declared.figures.Figures.{Figures}
-use Rattle.vectors.specs.Columns.{asm1, asm1_ceilings, digester, digester_ceilings, Below, added}
-use Rattle.vectors.specs.Figures.{Permitted}
+use Rattle.vectors.specs.Columns.{added}
 use Rattle.vectors.specs.Draw.{drawn, rest}
-use Rattle.vectors.specs.Totals.{asm1_cod, asm1_tkn, digester_cod, digester_tkn, degraders, weigh, weigh_from, asm1_cod_weights, asm1_fractions, digester_cod_weights, digester_fractions}
+use Rattle.vectors.specs.Totals.{asm1_cod, asm1_tkn, digester_cod, digester_tkn, weigh, weigh_from, asm1_cod_weights, asm1_fractions, digester_cod_weights, digester_fractions}
+use Rattle.vectors.specs.Weighed.{asm1_cod-weigh, asm1_tkn-weigh, digester_cod-weigh, digester_tkn-weigh}
 use Rattle.vectors.specs.Laws.{Linear, TotalLaws}
 use Rattle.vectors.proofs.Laws.Columns.{added-column}
 use Rattle.vectors.proofs.Laws.Draw.{column-splits}
@@ -64,42 +61,6 @@ weigh-step ws c i h = rw (add-one, drop-cons ws i 0)
 pub weigh-end : (ws c : List ℕ) (i j : ℕ) → i ≡ length ws → weigh_from j (drop i ws) c ≡ 0
 unfolding weigh_from
 weigh-end ws c i j e = rw (e, drop-length ws)
-
--- ---- the totals as weighings
-
-pub asm1_cod-weigh : (c : List ℕ) → asm1_cod c ≡ weigh asm1_cod_weights c
-unfolding weigh_from
-asm1_cod-weigh c = omega arith
-
-pub asm1_tkn-weigh : (f : Figures) (c : List ℕ) → asm1_tkn f c ≡ weigh (asm1_fractions f) c
-unfolding weigh_from
-asm1_tkn-weigh f c = omega arith
-
-pub digester_cod-weigh : (c : List ℕ) → digester_cod c ≡ weigh digester_cod_weights c
-unfolding weigh_from
-digester_cod-weigh c = omega arith
-
-pub digester_tkn-weigh : (f : Figures) (c : List ℕ) → digester_tkn f c ≡ weigh (digester_fractions f) c
-unfolding weigh_from
-digester_tkn-weigh f c = omega arith
-
--- ---- bounds, for vectors within their ceilings
-
-pub asm1_cod-le : (c : List ℕ) → Below asm1_ceilings c → asm1_cod c ≤ 7_000_000_000_000
-asm1_cod-le c b = omega (arith, b)
-
-pub asm1_tkn-le : (f : Figures) (c : List ℕ) → Permitted f → Below asm1_ceilings c → asm1_tkn f c ≤ 70_000_000_000_000_000
-asm1_tkn-le f c h b =
-    let v = asm1 c in
-    omega (arith, b, mul-le-mul_right (v.xbh + v.xba) h.ixb_le, mul-le-mul_right (v.xi + v.xp) h.ixe_le)
-
-pub digester_cod-le : (c : List ℕ) → Below digester_ceilings c → digester_cod c ≤ 22_000_000_000_000
-digester_cod-le c b = omega (arith, b)
-
-pub digester_tkn-le : (f : Figures) (c : List ℕ) → Permitted f → Below digester_ceilings c → digester_tkn f c ≤ 130_000_000_000_000_000
-digester_tkn-le f c h b =
-    let d = digester c in
-    omega (arith, b, mul-le-mul_right d.xc h.nxc_le, mul-le-mul_right (d.si + d.xi) h.ni_le, mul-le-mul_right (d.xpr + d.saa) h.naa_le, mul-le-mul_right (degraders d) h.nbac_le)
 
 -- ---- the laws
 

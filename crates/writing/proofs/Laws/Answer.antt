@@ -1,20 +1,23 @@
 -- Laws of an answer in a buffer. Assumes nothing.
 --
 --   too_short      a buffer under 512 bytes keeps its bytes, and the answer has none
---   roomy          a buffer of 512 bytes or more has the text
---   replied        the same for the text of one kind of answer
+--   paged          a buffer of 512 bytes or more has the text that was written on its page
 --   held-replied   the held line of equal totals
 use mathlib.Core.Bool.{cond}
 use mathlib.Core.List.{List, []}
 use mathlib.Core.Path.{◌≡◌, refl, sym, ap, subst}
-use Prim.Native.Nat.{ℕ, ◌≤◌, ◌<◌}
+use Prim.Native.Nat.{ℕ, ◌+◌, ◌≤◌, ◌<◌}
 use native.Mathlib.Omega.{arith}
 use lib.ListN.{length}
 use borrow.Author.Tests.{lt-ltb, le-ltb}
-use Rattle.plant.specs.declared.answer.Answer.{Answer}
+use Rattle.std.specs.Prelude.{Result}
+use Rattle.refusals.specs.declared.Refusal.{Refusal}
 use Rattle.holding.specs.declared.holding.HeldTotals.{HeldTotals}
-use Rattle.writing.specs.Buffer.{Answered}
-use Rattle.writing.specs.Answer.{answer_text, held_text, fitting}
+use Rattle.writing.specs.declared.page.Page.{Page}
+use Rattle.writing.specs.Buffer.{Put, Answered}
+use Rattle.writing.specs.Page.{Wrote}
+use Rattle.writing.specs.Answer.{held_text, fitting}
+use Rattle.writing.proofs.Laws.Buffer.{answered}
 
 pub fitting-none : (n : ℕ) (s : List ℕ) → n < 512 → fitting n s ≡ []
 fitting-none n s h = ap (λ b. cond b [] s) (lt-ltb n 512 h)
@@ -25,12 +28,17 @@ fitting-all n s h = ap (λ b. cond b [] s) (le-ltb n 512 h)
 pub too_short : (d s : List ℕ) → length d < 512 → Answered d (fitting (length d) s) 0 d
 too_short d s h = subst (λ (t : List ℕ). Answered d t 0 d) (sym (fitting-none (length d) s h)) (record { count = refl; buffer = refl; within = omega arith })
 
+-- an answer on a page over a buffer of 512 bytes or more; e is what the buffer holds when the page is given up
+pub paged : {p q : Page} {s e : List ℕ} → e ≡ q.bytes.now → 512 ≤ length p.bytes.now → p.at ≡ 0 → Wrote p s q × (q.at ≤ p.at + 512)
+    → Answered p.bytes.now (fitting (length p.bytes.now) s) q.at e
+paged {p} {q} {s} {e} last h start w =
+    let d = p.bytes.now in
+    let room = sym (fitting-all (length d) s h) in
+    subst (λ (t : List ℕ). Answered d t q.at e) room
+    (answered (subst (λ (j : ℕ). Put d j s q.at e) start (subst (λ (x : List ℕ). Put d p.at s q.at x) (sym last) w.0.put))
+    (omega (arith, w.1, start)))
+
 module _ {d e : List ℕ} {r : ℕ} where
-  pub roomy : {s : List ℕ} → 512 ≤ length d → Answered d s r e → Answered d (fitting (length d) s) r e
-  roomy {s} h = subst (λ (t : List ℕ). Answered d t r e) (sym (fitting-all (length d) s h))
-
-  pub replied : {a b : Answer} (v : List ℕ) → a ≡ b → 512 ≤ length d → Answered d (answer_text b v) r e → Answered d (fitting (length d) (answer_text a v)) r e
-  replied {a} {b} v q h p = roomy h (subst (λ (x : Answer). Answered d (answer_text x v) r e) (sym q) p)
-
-  pub held-replied : {h g : HeldTotals} → h ≡ g → Answered d (fitting (length d) (held_text h)) r e → Answered d (fitting (length d) (held_text g)) r e
-  held-replied q p = subst (λ (x : HeldTotals). Answered d (fitting (length d) (held_text x)) r e) q p
+  pub held-replied : {h g : Result HeldTotals Refusal} → h ≡ g → Answered d (fitting (length d) (held_text h)) r e
+      → Answered d (fitting (length d) (held_text g)) r e
+  held-replied q p = subst (λ (x : Result HeldTotals Refusal). Answered d (fitting (length d) (held_text x)) r e) q p

@@ -5,8 +5,7 @@
 --   put_then                                two writers, one behind the other, are one
 --   put_same                                the bytes under another name
 --   put-left, put-fits, put-room            bytes that do not fit, and bytes that do
---   columns-then                            one column more
---   answered, filled, answered-room         an answer at the start, the part that it fills, and its room
+--   answered, filled                        an answer at the start, and the part that it fills
 use mathlib.Core.List.{List, [], ◌∷◌, ◌++◌, append_assoc}
 use mathlib.Core.Path.{◌≡◌, sym, ap, subst, ◌∙◌}
 use Prim.Native.Nat.{ℕ, ◌+◌, ◌≤◌, ◌<◌}
@@ -18,7 +17,6 @@ use lib.Seq.{take-suc, take_all, drop-drop, length-take-le, set_split, take_at, 
 use mathlib.Core.Bool.{cond}
 use borrow.Author.Tests.{le-leb, lt-leb}
 use Rattle.writing.specs.Buffer.{put_at, Put, fitted, Answered}
-use Rattle.writing.specs.Answer.{column_text, columns_text}
 
 -- at the start of the buffer
 pub put_first : (d s : List ℕ) → put_at d 0 s ≡ s ++ drop (length s) d
@@ -101,12 +99,6 @@ module _ {d e : List ℕ} {r : ℕ} (at : ℕ) (s : List ℕ) where
   pub put-room : at + length s ≤ length d → Put d at (fitted (length d) at s) r e → Put d at s r e
   put-room h p = put_same (fitted-all (length d) at s h) p
 
--- one column more
-pub columns-then : {d b e : List ℕ} {at i r : ℕ} (names : List (List ℕ)) (c : ℕ) (v : List ℕ) → Put d at (columns_text names c v) i b
-    → Put b i (column_text (get_or names c []) (get_or v c 0)) r e → r ≤ length d → Put d at (columns_text names (c + 1) v) r e
-unfolding columns_text
-columns-then names c v p q h = rw add-one (put_then p q h)
-
 -- ---- at the start of the buffer
 
 pub answered : {d s : List ℕ} {r : ℕ} {e : List ℕ} → Put d 0 s r e → r ≤ 512 → Answered d s r e
@@ -114,6 +106,3 @@ answered {d} {s} p h = record { count = p.next ∙ zero-add (length s); buffer =
 
 pub filled : {d s : List ℕ} {r : ℕ} {e : List ℕ} → Answered d s r e → take r e ≡ s
 filled {d} {s} {r} p = ap (take r) p.buffer ∙ take_at s (drop (length s) d) r (sym p.count)
-
-pub answered-room : {d s : List ℕ} {r : ℕ} {e : List ℕ} → Answered d s r e → r ≤ length e
-answered-room {d} {s} p = omega (arith, p.count, ap length p.buffer, length-append s (drop (length s) d))

@@ -4,11 +4,12 @@
 --   one-decimal   a number's digits
 --   one-labelled  a label and a number
 --   one-column    a column
---   one-columns   the columns of a release
+--   one-columns   the columns of a vector
+--   one-told      numbers behind their labels
 --   one-answer    every answer
 --   one-held      every held line
 use mathlib.Core.Bool.{Bool, true, false, cond, not, ◌&&◌}
-use mathlib.Core.List.{List, [], ◌∷◌, ◌++◌}
+use mathlib.Core.List.{List, [], ◌∷◌, ◌++◌, map}
 use mathlib.Core.Path.{◌≡◌, refl}
 use Prim.Native.Nat.{ℕ, zero, suc, ◌+◌, ◌/◌, ◌%◌}
 use native.Mathlib.Omega.{arith}
@@ -17,13 +18,14 @@ use lib.ListN.{get_or}
 use borrow.Author.Tests.{ne_eqb}
 use Rattle.io.specs.Digits.{last_digits, hex_digit_ascii}
 use Rattle.vectors.proofs.Laws.Columns.{both_true}
+use Rattle.std.specs.Prelude.{Ok, Err}
 use Rattle.plant.specs.declared.answer.Answer.TheVariants.{Refused, Received, Fed, Settled, Returned, Released, Recycled}
 use Rattle.reading.specs.declared.names.Vector.TheVariants.{Sludge}
 use Rattle.reading.specs.Text.{ascii, newline, one_line}
 use Rattle.reading.specs.Number.{decimal, places_from}
 use Rattle.reading.specs.Names.{names_of}
-use Rattle.writing.specs.Answer.{labelled, column_text, columns_text, four_text, returned_text, released_text, refused_text}
-use Rattle.writing.specs.Answer.{totals_text, AnswerLineLaw, HeldLineLaw}
+use Rattle.writing.specs.Answer.{labelled, column_text, column_or_none, columns_from, columns_text, told_text, released_text}
+use Rattle.writing.specs.Answer.{AnswerLineLaw, HeldLineLaw}
 
 abbrev pub One : List ℕ → Type 0
 One s = one_line s ≡ true
@@ -68,12 +70,6 @@ unfoldable pub all_one : List (List ℕ) → Bool
 all_one [] = true
 all_one (s ∷ ss) = one_line s && all_one ss
 
-one_name : (names : List (List ℕ)) (k : ℕ) → all_one names ≡ true → One (get_or names k [])
-unfolding all_one one_line
-one_name [] k h = refl
-one_name (s ∷ ss) zero h = (both_true (one_line s) (all_one ss) h).0
-one_name (s ∷ ss) (suc k) h = one_name ss k (both_true (one_line s) (all_one ss) h).1
-
 pub one-column : (name : List ℕ) (n : ℕ) → One name → One (column_text name n)
 unfolding column_text one_line
 one-column name n h =
@@ -81,56 +77,48 @@ one-column name n h =
     (one-append name (labelled (ascii " ") n ++ ascii ")") h
     (one-append (labelled (ascii " ") n) (ascii ")") (one-labelled (ascii " ") n refl) refl))
 
-pub one-columns : (names : List (List ℕ)) (k : ℕ) (v : List ℕ) → all_one names ≡ true → One (columns_text names k v)
-unfolding columns_text one_line
-one-columns names zero v h = refl
-one-columns names (suc k) v h =
-    one-append (columns_text names k v) _ (one-columns names k v h) (one-column (get_or names k []) (get_or v k 0) (one_name names k h))
+one-or-none : (z : Bool) (name : List ℕ) (n : ℕ) → One name → One (column_or_none z name n)
+unfolding column_or_none one_line
+one-or-none z name n h = go (not z && eqb n 0)
+  where
+    go : (t : Bool) → One (cond t [] (column_text name n))
+    go true = refl
+    go false = one-column name n h
+
+pub one-columns : (z : Bool) (c : ℕ) (names : List (List ℕ)) (v : List ℕ) → all_one names ≡ true → One (columns_from z c names v)
+unfolding columns_from one_line all_one
+one-columns z c [] v h = refl
+one-columns z c (n ∷ ns) v h =
+    let both = both_true (one_line n) (all_one ns) h in
+    one-append (column_or_none z n (get_or v c 0)) _ (one-or-none z n (get_or v c 0) both.0) (one-columns z (c + 1) ns v both.1)
 
 -- ---- answers
 
-one-four : (a b c d : List ℕ) (i j k l : ℕ) → One a → One b → One c → One d
-    → One (labelled a i ++ (labelled b j ++ (labelled c k ++ (labelled d l ++ ascii ")"))))
-unfolding one_line
-one-four a b c d i j k l p q r s =
-    one-append (labelled a i) _ (one-labelled a i p)
-    (one-append (labelled b j) _ (one-labelled b j q)
-    (one-append (labelled c k) _ (one-labelled c k r)
-    (one-append (labelled d l) _ (one-labelled d l s) refl)))
-
-one-refused : (n : ℕ) → One (refused_text n)
-unfolding refused_text one_line
-one-refused n = one-append (labelled (ascii "(no ") n) _ (one-labelled (ascii "(no ") n refl) refl
-
-one-returned : (n : ℕ) → One (returned_text n)
-unfolding returned_text one_line
-one-returned n =
-    one-append (labelled (ascii "(ok return stripped ") n) (ascii ")") (one-labelled (ascii "(ok return stripped ") n refl) refl
+pub one-told : (ps : List (List ℕ × ℕ)) → all_one (map (λ (p : List ℕ × ℕ). p.0) ps) ≡ true → One (told_text ps)
+unfolding told_text one_line all_one
+one-told [] h = refl
+one-told (p ∷ ps) h =
+    let both = both_true (one_line p.0) (all_one (map (λ (q : List ℕ × ℕ). q.0) ps)) h in
+    one-append (labelled p.0 p.1) _ (one-labelled p.0 p.1 both.0) (one-told ps both.1)
 
 one-released : (v : List ℕ) → One (released_text v)
 unfolding released_text one_line all_one
 one-released v =
-    one-append (ascii "(ok release") (columns_text (names_of Sludge) 13 v ++ ascii ")") refl
-    (one-append (columns_text (names_of Sludge) 13 v) (ascii ")") (one-columns (names_of Sludge) 13 v refl) refl)
+    let columns = columns_text true (names_of Sludge) v in
+    one-append (ascii "(ok release") (columns ++ ascii ")") refl
+    (one-append columns (ascii ")") (one-columns true 0 (names_of Sludge) v refl) refl)
 
 pub one-answer : AnswerLineLaw
-unfolding one_line four_text
-one-answer (Refused n) v = one-refused n
+unfolding one_line all_one
+one-answer (Refused r) v = one-told _ refl
 one-answer Received v = refl
-one-answer (Fed b o n w) v =
-    one-four (ascii "(ok feed burnt ") (ascii " oxygen ") (ascii " nitrate ") (ascii " warn ") b.0 o.0 n.0 w
-    refl refl refl refl
+one-answer (Fed b o n w) v = one-told _ refl
 one-answer Settled v = refl
-one-answer (Returned s) v = one-returned s.0
+one-answer (Returned s) v = one-told _ refl
 one-answer Released v = one-released v
 one-answer Recycled v = refl
 
 pub one-held : HeldLineLaw
-unfolding one_line four_text
-one-held h = go (eqb h.refusal 0)
-  where
-    go : (t : Bool) → One (cond t (totals_text h.cod.0 h.tkn.0 h.oxygen.0 h.nitrate.0) (refused_text h.refusal))
-    go true =
-        one-four (ascii "(held cod ") (ascii " tkn ") (ascii " oxygen ") (ascii " nitrate ")
-        h.cod.0 h.tkn.0 h.oxygen.0 h.nitrate.0 refl refl refl refl
-    go false = one-refused h.refusal
+unfolding one_line all_one
+one-held (Ok h) = one-told _ refl
+one-held (Err r) = one-told _ refl

@@ -10,17 +10,20 @@
 use mathlib.Core.Bool.{Bool, true, false, cond, not, ◌&&◌}
 use mathlib.Core.List.{List, [], ◌∷◌, ◌++◌, append_assoc, append-nil}
 use mathlib.Core.Path.{◌≡◌, refl, sym, ap, ◌∙◌}
-use Prim.Native.Nat.{ℕ, zero, suc, ◌+◌, ◌-◌, ◌*◌, ◌≤◌}
+use Prim.Native.Nat.{ℕ, suc, ◌+◌, ◌-◌, ◌*◌, ◌≤◌}
 use native.Mathlib.Omega.{arith}
-use lib.ListN.{length, take, get_or}
-use lib.Seq.{take-suc, take_all}
+use lib.ListN.{length, take, drop, get_or}
+use lib.Seq.{take_all, drop-cons}
+use native.Mathlib.Numerals.{add-one}
 use Rattle.vectors.specs.Units.{milligrams, ticks}
 use Rattle.vectors.proofs.Laws.Columns.{both_true}
+use Rattle.refusals.specs.declared.Refusal.TheVariants.{Other}
+use Rattle.refusals.specs.Refusal.{number}
 use Rattle.plant.specs.declared.answer.Answer.TheVariants.{Refused, Received, Fed, Settled, Returned, Released, Recycled}
 use Rattle.reading.specs.Text.{ascii, same_bytes, look_up, up_to}
 use Rattle.reading.specs.Number.{is_digit, all_digits, value_after, decimal}
 use Rattle.reading.specs.Names.{sludge_names}
-use Rattle.writing.specs.Answer.{labelled, column_text, columns_text, fed_text, four_text, returned_text, released_text, refused_text}
+use Rattle.writing.specs.Answer.{labelled, column_text, column_or_none, columns_from, fed_text, told_text, released_text}
 use Rattle.writing.specs.ReadBack.{no_digits, scan, numbers_in, read_answer, short, ReadBackLaw, ReadColumnsLaw, SameTextLaw}
 use Rattle.writing.proofs.Laws.Decimal.{decimal-digits, decimal-value}
 
@@ -73,12 +76,6 @@ unfoldable pub no_digits_in : List (List ℕ) → Bool
 no_digits_in [] = true
 no_digits_in (s ∷ ss) = no_digits s && no_digits_in ss
 
-name-no : (names : List (List ℕ)) (k : ℕ) → no_digits_in names ≡ true → no_digits (get_or names k []) ≡ true
-unfolding no_digits_in no_digits
-name-no [] k h = refl
-name-no (s ∷ ss) zero h = (both_true (no_digits s) (no_digits_in ss) h).0
-name-no (s ∷ ss) (suc k) h = name-no ss k (both_true (no_digits s) (no_digits_in ss) h).1
-
 scan-column : (name : List ℕ) (n : ℕ) (s : List ℕ) → no_digits name ≡ true → short n → numbers_in (column_text name n ++ s) ≡ n ∷ numbers_in s
 unfolding column_text no_digits scan
 scan-column name n s p h =
@@ -87,23 +84,25 @@ scan-column name n s p h =
     ∙ ap numbers_in (append_assoc (labelled (ascii " ") n) (ascii ")") s)
     ∙ scan-labelled (ascii " ") n 41 s refl h refl
 
-scan-columns : (names : List (List ℕ)) (k : ℕ) (v s : List ℕ) → no_digits_in names ≡ true → ((i : ℕ) → short (get_or v i 0)) → k ≤ length v
-    → numbers_in (columns_text names k v ++ s) ≡ take k v ++ numbers_in s
-unfolding columns_text
-scan-columns names zero v s p h l = refl
-scan-columns names (suc k) v s p h l =
-    let t = column_text (get_or names k []) (get_or v k 0) in
-    ap numbers_in (append_assoc (columns_text names k v) t s)
-    ∙ scan-columns names k v (t ++ s) p h (omega arith)
-    ∙ ap (λ (x : List ℕ). take k v ++ x) (scan-column (get_or names k []) (get_or v k 0) s (name-no names k p) (h k))
-    ∙ sym (append_assoc (take k v) (get_or v k 0 ∷ []) (numbers_in s))
-    ∙ ap (λ (x : List ℕ). x ++ numbers_in s) (sym (take-suc v k 0 (omega arith)))
+-- the columns from c on
+scan-columns : (names : List (List ℕ)) (c : ℕ) (v s : List ℕ) → no_digits_in names ≡ true → ((i : ℕ) → short (get_or v i 0))
+    → c + length names ≤ length v → numbers_in (columns_from true c names v ++ s) ≡ take (length names) (drop c v) ++ numbers_in s
+unfolding columns_from column_or_none no_digits_in
+scan-columns [] c v s p h l = refl
+scan-columns (n ∷ ns) c v s p h l =
+    let both = both_true (no_digits n) (no_digits_in ns) p in
+    let x = get_or v c 0 in
+    let rest = columns_from true (c + 1) ns v in
+    ap numbers_in (append_assoc (column_text n x) rest s)
+    ∙ scan-column n x (rest ++ s) both.0 (h c)
+    ∙ ap (λ (t : List ℕ). x ∷ t) (scan-columns ns (c + 1) v s both.1 h (omega arith)
+    ∙ ap (λ (j : ℕ). take (length ns) (drop j v) ++ numbers_in s) (add-one c))
+    ∙ ap (λ (t : List ℕ). take (suc (length ns)) t ++ numbers_in s) (sym (drop-cons v c 0 (omega arith)))
 
 pub columns-read : ReadColumnsLaw
 unfolding released_text no_digits no_digits_in scan
 columns-read v l h =
-    let c : 13 ≤ length v = omega arith in
-    scan-columns sludge_names 13 v (ascii ")") refl h c
+    scan-columns sludge_names 0 v (ascii ")") refl h (omega arith)
     ∙ append-nil (take 13 v)
     ∙ take_all 13 v (omega arith)
 
@@ -114,7 +113,7 @@ unfolding scan
 scan-end l n p h = scan-labelled l n 41 [] p h refl
 
 scan-fed : (b o n w : ℕ) → short b → short o → short n → short w → numbers_in (fed_text b o n w) ≡ b ∷ o ∷ n ∷ w ∷ []
-unfolding four_text scan no_digits
+unfolding told_text scan no_digits
 scan-fed b o n w h i j k =
     scan-labelled (ascii "(ok feed burnt ") b 32 _ refl h refl
     ∙ ap (λ (x : List ℕ). b ∷ x) (scan-labelled (ascii " oxygen ") o 32 _ refl i refl)
@@ -122,8 +121,8 @@ scan-fed b o n w h i j k =
     ∙ ap (λ (x : List ℕ). b ∷ o ∷ n ∷ x) (scan-end (ascii " warn ") w refl k)
 
 pub answer-read : ReadBackLaw
-unfolding read_answer look_up same_bytes up_to columns_text column_text four_text returned_text released_text refused_text no_digits
-answer-read (Refused n) v h = ap (λ (ns : List ℕ). Refused (get_or ns 0 0)) (scan-end (ascii "(no ") n refl h.0)
+unfolding read_answer look_up same_bytes up_to columns_from column_or_none column_text told_text released_text no_digits
+answer-read (Refused r) v h = ap (λ (ns : List ℕ). Refused (Other (get_or ns 0 0))) (scan-end (ascii "(no ") (number r) refl h.0)
 answer-read Received v h = refl
 answer-read (Fed b o n w) v h =
     ap (λ (ns : List ℕ). Fed (milligrams (get_or ns 0 0)) (milligrams (get_or ns 1 0)) (ticks (get_or ns 2 0)) (get_or ns 3 0))

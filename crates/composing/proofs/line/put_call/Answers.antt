@@ -1,27 +1,33 @@
 -- `composing::line::put_call` meets its contract. Assumes nothing.
-use Rattle.composing.proofs.Laws.Buffer.{call-as}
+use native.Mathlib.Omega.{arith}
+use Rattle.reading.specs.Text.{up_to}
+use Rattle.writing.specs.Answer.{told_text}
+use Rattle.writing.proofs.Laws.Page.{wrote_then, wrote_same}
+use Rattle.composing.proofs.Laws.Buffer.{settle-parts, call-as}
 use Rattle.composing.proofs.line.put_call.Goals as goal
 
 pub returns-in-Receive : goal.returns-in-Receive
-returns-in-Receive c =
-    call-as _ _ c.in-Receive.is c.put_receive.ensures
-
-pub returns-in-Feed : goal.returns-in-Feed
-returns-in-Feed c =
-    call-as _ _ c.in-Feed.is c.put_numbered.ensures
+unfolding up_to
+returns-in-Receive c = call-as _ _ c.in-Receive.is (wrote_then c.put.ensures c.put_fields.ensures.text (omega arith), omega arith)
 
 pub returns-in-Settle : goal.returns-in-Settle
+unfolding up_to
 returns-in-Settle c =
-    call-as _ _ c.in-Settle.is c.put_settle.ensures
+    let w = wrote_then c.labelled.ensures.0 c.put_fields-in-Settle.ensures.text (omega arith) in
+    call-as _ _ c.in-Settle.is (wrote_same (settle-parts c.in-Settle.g.0 c.args.r.digester) w, omega arith)
+
+pub returns-in-Feed : goal.returns-in-Feed
+unfolding told_text
+returns-in-Feed c = call-as _ _ c.in-Feed.is (c.told.ensures.0, omega arith)
 
 pub returns-in-Return : goal.returns-in-Return
-returns-in-Return c =
-    call-as _ _ c.in-Return.is c.put_numbered-in-Return.ensures
+unfolding told_text
+returns-in-Return c = call-as _ _ c.in-Return.is (c.told-in-Return.ensures.0, omega arith)
 
 pub returns-in-Release : goal.returns-in-Release
-returns-in-Release c =
-    call-as _ _ c.in-Release.is c.put_numbered-in-Release.ensures
+unfolding told_text
+returns-in-Release c = call-as _ _ c.in-Release.is (c.told-in-Release.ensures.0, omega arith)
 
 pub returns-in-Recycle : goal.returns-in-Recycle
-returns-in-Recycle c =
-    call-as _ _ c.in-Recycle.is c.put_numbered-in-Recycle.ensures
+unfolding told_text
+returns-in-Recycle c = call-as _ _ c.in-Recycle.is (c.told-in-Recycle.ensures.0, omega arith)

@@ -1,6 +1,8 @@
 -- `composing::line::write_line` meets its contract. Assumes nothing.
+use mathlib.Core.Path.{refl}
 use native.Mathlib.Omega.{arith}
-use Rattle.writing.proofs.Laws.Buffer.{put_then}
+use borrow.Author.Rules.{rules}
+use Rattle.writing.proofs.Laws.Page.{wrote_then}
 use Rattle.composing.proofs.Laws.Buffer.{line_refused, line-written}
 use Rattle.composing.proofs.line.write_line.Goals as goal
 
@@ -9,5 +11,5 @@ returns-then-buf-lt1025 c = line_refused _ _ _ (omega arith)
 
 pub returns : goal.returns
 returns c =
-    let p = put_then c.put_entry-e.ensures.0 c.put_bytes.ensures (omega arith) in
-    line-written _ _ _ (omega arith) p
+    let w = wrote_then c.put_entry.ensures.0 c.put.ensures (omega arith) in
+    line-written c.args.preview c.args.r (search rules) (omega arith) refl w

@@ -14,7 +14,7 @@ loop-i-preserved c =
     let l = c.loop-i in
     let a = c.args in
     let here = sheet-column l.i a.kinds.now a.values.now NotSampled (search rules) in
-    filled_more NotSampled _ l.invariant (search rules) (c.finding_at.ensures ∙ here)
+    filled_more NotSampled _ l.invariant (search rules) (c.finding_of.ensures ∙ here)
 
 pub returns : goal.returns
 returns c = filled-all c.loop-i.invariant (search rules)

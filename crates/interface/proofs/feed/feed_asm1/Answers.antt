@@ -1,22 +1,28 @@
 -- `interface::feed::feed_asm1` meets its contract. Assumes nothing.
-use mathlib.Core.Path.{sym, ◌∙◌}
+use mathlib.Core.Path.{◌≡◌, sym, ap, ◌∙◌}
+use lib.Dec.{ltb}
+use borrow.Author.Rules.{rules}
+use Rattle.std.specs.Prelude.{Ok}
 use Rattle.interface.proofs.Laws.Feed.{same_test, feed-short, feed-over, feed-taken}
+use Rattle.interface.proofs.Laws.Whole.{err-is}
 use Rattle.interface.proofs.feed.feed_asm1.Goals as goal
 
-pub returns-then-inerts : goal.returns-then-inerts
-returns-then-inerts c =
-    c.feed_refused.ensures ∙ feed-short _ _ (sym c.inerts_of-inerts.ensures.short ∙ c.if-inerts.true)
+pub returns-in_err-inerts : goal.returns-in_err-inerts
+returns-in_err-inerts c =
+    let s = c.in_err-inerts.ensures in
+    err-is c.from_residual.result c.from_residual.ensures.1 s.1 ∙ feed-short _ _ s.0
 
-pub returns-then-is_under : goal.returns-then-is_under
-returns-then-is_under c =
+pub returns-then-lt : goal.returns-then-lt
+returns-then-lt c =
+    let d = c.demand_of-demand.result in
     let demand = c.demand_of-demand.ensures in
-    c.feed_refused-then-is_under.ensures
-    ∙ feed-over _ _ (sym c.inerts_of-inerts.ensures.short ∙ c.if-inerts.false)
-    (sym (c.is_under.ensures ∙ same_test demand.A demand.D) ∙ c.if-is_under.true)
+    let under : c.lt.result ≡ ltb d.a.0 d.d.0 = search rules in
+    feed-over _ _ c.in_ok-inerts.ensures.0 (sym (under ∙ same_test demand.A demand.D) ∙ c.if-lt.true)
 
 pub returns : goal.returns
 returns c =
+    let d = c.demand_of-demand.result in
     let demand = c.demand_of-demand.ensures in
-    c.feed_taken.ensures
-    ∙ feed-taken _ _ (sym c.inerts_of-inerts.ensures.short ∙ c.if-inerts.false)
-    (sym (c.is_under.ensures ∙ same_test demand.A demand.D) ∙ c.if-is_under.false)
+    let under : c.lt.result ≡ ltb d.a.0 d.d.0 = search rules in
+    ap Ok c.feed_taken.ensures
+    ∙ feed-taken _ _ c.in_ok-inerts.ensures.0 (sym (under ∙ same_test demand.A demand.D) ∙ c.if-lt.false)

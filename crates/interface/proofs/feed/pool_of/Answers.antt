@@ -4,18 +4,6 @@ use Rattle.interface.proofs.Laws.Feed.{stage3-is}
 use native.Mathlib.Omega.{arith}
 use Rattle.interface.proofs.feed.pool_of.Goals as goal
 
-pub plus-requires-2 : goal.plus-requires-2
-plus-requires-2 c = omega (arith, c.requires.1.0)
-
-pub plus-requires-3 : goal.plus-requires-3
-plus-requires-3 c = omega arith
-
-pub plus-requires-4 : goal.plus-requires-4
-plus-requires-4 c = omega arith
-
-pub plus-requires-5 : goal.plus-requires-5
-plus-requires-5 c = omega arith
-
 pub returns : goal.returns
 returns c =
     let two = c.plus-3.ensures.0 in

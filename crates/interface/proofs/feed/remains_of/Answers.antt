@@ -1,29 +1,7 @@
 -- `interface::feed::remains_of` meets its contract. Assumes nothing.
 use Rattle.columns.specs.Counts.{asm1_counts}
 use Rattle.interface.proofs.Laws.Feed.{stage5-is}
-use native.Mathlib.Omega.{arith}
 use Rattle.interface.proofs.feed.remains_of.Goals as goal
-
-pub plus-particulate-requires : goal.plus-particulate-requires
-plus-particulate-requires c = omega (arith, c.requires)
-
-pub overflow_add-f : goal.overflow_add-f
-overflow_add-f c =
-    omega (arith, c.requires.0.0)
-
-pub share-xch-requires : goal.share-xch-requires
-share-xch-requires c =
-    let permitted = c.requires.0.0 in
-    omega (arith, permitted, c.less-rest.ensures.1, c.less-all.ensures.1, c.plus-particulate.ensures.1)
-
-pub plus-requires-4 : goal.plus-requires-4
-plus-requires-4 c =
-    omega (arith, c.requires.1.1)
-
-pub nitrogen-requires : goal.nitrogen-requires
-nitrogen-requires c =
-    let permitted = c.requires.0.0 in
-    omega (arith, permitted, c.afforded-xc.ensures.1.0, c.less-all.ensures.1, c.plus-particulate.ensures.1)
 
 pub returns : goal.returns
 returns c =

@@ -1,25 +1,21 @@
 -- `interface::returning::return_digester` meets its contract. Assumes nothing.
-use native.Mathlib.Omega.{arith}
-use mathlib.Core.Path.{◌∙◌}
-use Rattle.interface.specs.Return.{taken}
+use mathlib.Core.Path.{◌≡◌, ap, ◌∙◌}
+use lib.Dec.{ltb}
+use borrow.Author.Rules.{rules}
+use Rattle.std.specs.Prelude.{Ok}
 use Rattle.interface.proofs.Laws.Return.{short-is, return-short, return-taken}
 use Rattle.interface.proofs.returning.return_digester.Goals as goal
 
-pub nitrogen-q-requires : goal.nitrogen-q-requires
-nitrogen-q-requires c = omega (arith, c.requires)
-
-pub returns-then-is_under : goal.returns-then-is_under
-returns-then-is_under c =
+pub returns-then-lt : goal.returns-then-lt
+returns-then-lt c =
     let two = c.plus.ensures.0 in
-    let short = short-is _ _ two c.plus-2.ensures.0 c.is_under.ensures c.if-is_under.true in
-    c.return_refused.ensures ∙ return-short _ _ c.nitrogen_of-n.ensures.0 c.nitrogen-q.ensures.0 short
-
-pub return_taken-requires : goal.return_taken-requires
-return_taken-requires c =
-    (c.requires.1, c.without.ensures ∙ (λ i. taken (c.nitrogen-q.ensures.0 i) (c.nitrogen_of-n.ensures.0 i)))
+    let under : c.lt.result ≡ ltb c.plus-2.result.0 c.nitrogen-q.result.0 = search rules in
+    let short = short-is _ _ two c.plus-2.ensures.0 under c.if-lt.true in
+    return-short _ _ c.nitrogen_of-n.ensures.0 c.nitrogen-q.ensures.0 short
 
 pub returns : goal.returns
 returns c =
     let two = c.plus.ensures.0 in
-    let covered = short-is _ _ two c.plus-2.ensures.0 c.is_under.ensures c.if-is_under.false in
-    c.return_taken.ensures ∙ return-taken _ _ c.nitrogen_of-n.ensures.0 c.nitrogen-q.ensures.0 covered
+    let under : c.lt.result ≡ ltb c.plus-2.result.0 c.nitrogen-q.result.0 = search rules in
+    let covered = short-is _ _ two c.plus-2.ensures.0 under c.if-lt.false in
+    ap Ok c.return_taken.ensures ∙ return-taken _ _ c.nitrogen_of-n.ensures.0 c.nitrogen-q.ensures.0 covered

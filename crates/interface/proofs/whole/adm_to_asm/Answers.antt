@@ -4,18 +4,18 @@ use Rattle.vectors.specs.Columns.{digester_ceilings}
 use Rattle.vectors.proofs.Laws.Columns.{within-below}
 use Rattle.vectors.proofs.Laws.Figures.{house-permitted}
 use Rattle.interface.specs.Whole.{adm_to_asm}
-use Rattle.interface.proofs.Laws.Whole.{taken, sent}
+use Rattle.interface.proofs.Laws.Whole.{err-is, taken, sent}
 use Rattle.interface.proofs.whole.adm_to_asm.Goals as goal
 
 pub return_of-requires : goal.return_of-requires
-return_of-requires c =
-    let fits = sym c.digester_within.ensures ∙ c.if-digester_within.true in
-    (house-permitted, within-below digester_ceilings _ fits)
+return_of-requires c = (house-permitted, within-below digester_ceilings _ (sym c.is_within.ensures ∙ c.in_ok-unless.ensures.passed))
 
-pub returns-then-digester_within : goal.returns-then-digester_within
+pub returns-in_err-unless : goal.returns-in_err-unless
 unfolding adm_to_asm
-returns-then-digester_within c = taken _ _ _ c.digester_within.ensures c.if-digester_within.true c.return_of.ensures
+returns-in_err-unless c =
+    let e = c.in_err-unless.ensures.sent in
+    sent _ _ _ c.is_within.ensures e.0 (err-is c.from_residual.result c.from_residual.ensures.1 e.1)
 
 pub returns : goal.returns
 unfolding adm_to_asm
-returns c = sent _ _ _ c.digester_within.ensures c.if-digester_within.false c.return_refused.ensures
+returns c = taken _ _ _ c.is_within.ensures c.in_ok-unless.ensures.passed c.return_of.ensures

@@ -4,18 +4,18 @@ use Rattle.vectors.specs.Columns.{asm1_ceilings}
 use Rattle.vectors.proofs.Laws.Columns.{within-below}
 use Rattle.vectors.proofs.Laws.Figures.{house-permitted}
 use Rattle.interface.specs.Whole.{asm_to_adm}
-use Rattle.interface.proofs.Laws.Whole.{taken, sent}
+use Rattle.interface.proofs.Laws.Whole.{err-is, taken, sent}
 use Rattle.interface.proofs.whole.asm_to_adm.Goals as goal
 
 pub feed_of-requires : goal.feed_of-requires
-feed_of-requires c =
-    let fits = sym c.asm1_within.ensures ∙ c.if-asm1_within.true in
-    (house-permitted, within-below asm1_ceilings _ fits)
+feed_of-requires c = (house-permitted, within-below asm1_ceilings _ (sym c.is_within.ensures ∙ c.in_ok-unless.ensures.passed))
 
-pub returns-then-asm1_within : goal.returns-then-asm1_within
+pub returns-in_err-unless : goal.returns-in_err-unless
 unfolding asm_to_adm
-returns-then-asm1_within c = taken _ _ _ c.asm1_within.ensures c.if-asm1_within.true c.feed_of.ensures
+returns-in_err-unless c =
+    let e = c.in_err-unless.ensures.sent in
+    sent _ _ _ c.is_within.ensures e.0 (err-is c.from_residual.result c.from_residual.ensures.1 e.1)
 
 pub returns : goal.returns
 unfolding asm_to_adm
-returns c = sent _ _ _ c.asm1_within.ensures c.if-asm1_within.false c.feed_refused.ensures
+returns c = taken _ _ _ c.is_within.ensures c.in_ok-unless.ensures.passed c.feed_of.ensures

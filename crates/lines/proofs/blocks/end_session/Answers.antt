@@ -3,34 +3,32 @@ use mathlib.Core.Path.{sym, ◌∙◌}
 use Prim.Native.Nat.{◌≤◌}
 use native.Mathlib.Omega.{arith}
 use lib.ListN.{length}
-use Rattle.lines.proofs.Laws.Blocks.{fits-true, end-unfit, end-ready}
+use Rattle.lines.specs.Blocks.{desk}
+use Rattle.lines.proofs.Laws.Blocks.{room-true, end-unfit, end-ready}
 use Rattle.lines.proofs.blocks.end_session.Goals as goal
 
-pub gather_last-g-requires : goal.gather_last-g-requires
-gather_last-g-requires c =
-    let t = fits-true _ _ _ _ _ (sym c.has_room.ensures ∙ c.if-has_room.true) in
+pub answer_last-requires : goal.answer_last-requires
+answer_last-requires c =
+    let t = room-true _ (desk c.args.p c.args.line.now c.args.out.now) (sym c.has_room.ensures ∙ c.if-has_room.true) in
     (omega (arith, t.0, t.1), omega (arith, t.2))
 
-pub gather_held-at-requires : goal.gather_held-at-requires
-gather_held-at-requires c =
-    let t = fits-true _ _ _ _ _ (sym c.has_room.ensures ∙ c.if-has_room.true) in
-    omega (arith, t.2, c.gather_last-g.ensures.at_bound, c.gather_last-g.auto)
+pub tell_held-requires : goal.tell_held-requires
+tell_held-requires c =
+    let t = room-true _ (desk c.args.p c.args.line.now c.args.out.now) (sym c.has_room.ensures ∙ c.if-has_room.true) in
+    omega (arith, t.2, c.answer_last.ensures.at_bound, c.answer_last.auto)
 
 pub returns-then-has_room : goal.returns-then-has_room
 returns-then-has_room c =
     let a = c.args in
     let fit = sym c.has_room.ensures ∙ c.if-has_room.true in
-    let t = fits-true _ _ _ _ _ fit in
-    let g = c.gather_last-g in
-    let h = c.gather_held-at in
-    let room : h.result ≤ length a.out.now = omega (arith, t.2, g.ensures.at_bound, h.ensures.at_bound) in
+    let t = room-true _ (desk a.p a.line.now a.out.now) fit in
+    let g = c.answer_last in
+    let h = c.tell_held in
+    let room : h.new.self.at ≤ length a.out.now = omega (arith, t.2, g.ensures.at_bound, h.ensures.at_bound) in
     record {
-      desk_after = end-ready _ a.p a.line.now a.out.now g.result fit g.ensures.answer_gathered h.ensures.held_line_put room;
+      desk_after = end-ready _ a.p a.line.now a.out.now fit h.ensures.same_record g.ensures.line_ended g.ensures.answer_gathered h.ensures.held_line_put room;
       at_in_bounds = λ b. room;
     }
 
-pub returns : goal.returns
-returns c = record {
-  desk_after = end-unfit _ _ _ _ (sym c.has_room.ensures ∙ c.if-has_room.false);
-  at_in_bounds = λ b. b;
-}
+pub returns-else-has_room-clause-desk_after : goal.returns-else-has_room-clause-desk_after
+returns-else-has_room-clause-desk_after c = end-unfit _ c.args.p c.args.line.now c.args.out.now (sym c.has_room.ensures ∙ c.if-has_room.false)

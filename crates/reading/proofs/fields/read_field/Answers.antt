@@ -1,24 +1,40 @@
 -- `reading::fields::read_field` meets its contract. Assumes nothing.
-use mathlib.Core.Path.{sym, ap₂, ◌∙◌}
-use lib.Seq.{length-take-le}
-use Rattle.reading.specs.Names.{entries}
+use mathlib.Core.Path.{sym, ap, ap₂, ◌∙◌}
+use Prim.Native.Nat.{ℕ, ◌+◌, ◌-◌}
+use lib.ListN.{length, take, drop}
+use Rattle.std.proofs.Common.{Option}
+use Rattle.reading.specs.Number.{read_number}
+use Rattle.reading.specs.Names.{unpadded_all}
 use Rattle.reading.specs.Form.{field_of}
 use Rattle.reading.proofs.Laws.Form.{field-split, field-none}
 use Rattle.reading.proofs.fields.read_field.Goals as goal
 
-pub slice_bounds-find-end : goal.slice_bounds-find-end
-slice_bounds-find-end c = sym (length-take-le _ _ c.place-k.ensures.1)
+pub returns-in_err-column : goal.returns-in_err-column
+returns-in_err-column c =
+    let a = c.args in
+    let p = c.place-k in
+    let rest = take (length a.s.now - (p.result + 1)) (drop (p.result + 1) a.s.now) in
+    c.from_residual.ensures
+    ∙ ap (λ (x : Option ℕ). field_of x (read_number rest)) (sym c.in_err-column.was ∙ c.find.ensures)
+    ∙ field-split (unpadded_all a.names.now) a.from a.s.now p.result p.ensures.0
+
+pub returns-in_err-number : goal.returns-in_err-number
+returns-in_err-number c =
+    let a = c.args in
+    let p = c.place-k in
+    c.from_residual-in_err-number.ensures
+    ∙ ap₂ field_of (sym c.in_ok-column.was ∙ c.find.ensures) (sym c.in_err-number.was ∙ c.read_number.ensures)
+    ∙ field-split (unpadded_all a.names.now) a.from a.s.now p.result p.ensures.0
 
 pub returns-then-k-s : goal.returns-then-k-s
 returns-then-k-s c =
     let a = c.args in
     let p = c.place-k in
-    c.field_of.ensures
-    ∙ ap₂ field_of c.find-c.ensures c.read_number-n.ensures
-    ∙ field-split (entries a.count a.table.now) a.from a.s.now p.result p.ensures.0
+    ap₂ field_of (sym c.in_ok-column.was ∙ c.find.ensures) (sym c.in_ok-number.was ∙ c.read_number.ensures)
+    ∙ field-split (unpadded_all a.names.now) a.from a.s.now p.result p.ensures.0
 
 pub returns : goal.returns
 returns c =
     let a = c.args in
     let p = c.place-k in
-    field-none (entries a.count a.table.now) a.from a.s.now p.result p.ensures.0 c.if-k-s.false
+    field-none (unpadded_all a.names.now) a.from a.s.now p.result p.ensures.0 c.if-k-s.false

@@ -3,7 +3,7 @@ use mathlib.Core.List.{List}
 use mathlib.Core.Path.{ap, ◌∙◌}
 use Prim.Native.Nat.{ℕ}
 use native.Mathlib.Omega.{arith}
-use Rattle.reading.specs.Names.{entries}
+use Rattle.reading.specs.Names.{unpadded_all}
 use Rattle.reading.specs.Form.{read_field, field_from}
 use Rattle.reading.proofs.Laws.Text.{rest_of}
 use Rattle.reading.proofs.Laws.Form.{piece-short, piece-first, piece-second, piece-well}
@@ -21,7 +21,7 @@ returns-then-s-ne40 c = ap (field_from _) (piece-second _ _ c.if-s-ne40.true)
 pub returns : goal.returns
 returns c =
     let a = c.args in
-    let names = entries a.count a.table.now in
+    let names = unpadded_all a.names.now in
     c.read_field.ensures
     ∙ ap (λ (s : List ℕ). field_from a.from (read_field names s)) (rest_of a.s.now 2)
     ∙ ap (field_from a.from) (piece-well names a.s.now (omega arith) c.if-s-ne32.false c.if-s-ne40.false)

@@ -1,14 +1,10 @@
 -- `reading::form::read_form` meets its contract. Assumes nothing.
 use mathlib.Core.Path.{sym, ap, ◌∙◌}
-use lib.Seq.{length-take-le}
 use Rattle.reading.specs.Number.{read_number}
 use Rattle.reading.specs.Form.{read_fields, receive_line, number_line, settle_by}
 use Rattle.reading.proofs.Laws.Text.{rest_of}
 use Rattle.reading.proofs.Laws.Form.{form-receive, form-settle, form-number}
 use Rattle.reading.proofs.form.read_form.Goals as goal
-
-pub slice_bounds-w-end : goal.slice_bounds-w-end
-slice_bounds-w-end c = sym (length-take-le _ _ c.place-k.ensures.1)
 
 pub returns-then-same : goal.returns-then-same
 returns-then-same c =
@@ -26,12 +22,25 @@ returns-then-same-2 c =
     (sym c.same.ensures ∙ c.if-same.false)
     (sym c.same-2.ensures ∙ c.if-same-2.true)
 
+pub returns-in_err-n : goal.returns-in_err-n
+returns-in_err-n c =
+    let t = c.args.t.now in
+    c.from_residual.ensures
+    ∙ ap (number_line _)
+    (sym c.in_err-n.was
+    ∙ c.read_number.ensures
+    ∙ ap read_number (rest_of t c.behind_space-b.result ∙ c.behind_space-b.ensures.0))
+    ∙ form-number t c.place-k.result c.place-k.ensures.0
+    (sym c.same.ensures ∙ c.if-same.false)
+    (sym c.same-2.ensures ∙ c.if-same-2.false)
+
 pub returns : goal.returns
 returns c =
     let t = c.args.t.now in
-    c.number_line.ensures
+    c.call_of.ensures
     ∙ ap (number_line _)
-    (c.read_number.ensures
+    (sym c.in_ok-n.was
+    ∙ c.read_number.ensures
     ∙ ap read_number (rest_of t c.behind_space-b.result ∙ c.behind_space-b.ensures.0))
     ∙ form-number t c.place-k.result c.place-k.ensures.0
     (sym c.same.ensures ∙ c.if-same.false)

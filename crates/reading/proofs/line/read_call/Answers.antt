@@ -10,9 +10,6 @@ overflow_sub-e c = omega (arith, brackets-two _ (sym c.is_bracketed.ensures ∙ 
 pub slice_bounds-read_form-count : goal.slice_bounds-read_form-count
 slice_bounds-read_form-count c = omega (arith, brackets-two _ (sym c.is_bracketed.ensures ∙ c.if-is_bracketed.true))
 
-pub slice_bounds-read_form-end : goal.slice_bounds-read_form-end
-slice_bounds-read_form-end c = omega (arith, brackets-two _ (sym c.is_bracketed.ensures ∙ c.if-is_bracketed.true))
-
 pub slice_bounds-read_form-start : goal.slice_bounds-read_form-start
 slice_bounds-read_form-start c = omega (arith, brackets-two _ (sym c.is_bracketed.ensures ∙ c.if-is_bracketed.true))
 
@@ -22,4 +19,4 @@ returns-then-is_bracketed c =
 
 pub returns : goal.returns
 returns c =
-    c.no_form.ensures ∙ call_none _ (sym c.is_bracketed.ensures ∙ c.if-is_bracketed.false)
+    call_none _ (sym c.is_bracketed.ensures ∙ c.if-is_bracketed.false)

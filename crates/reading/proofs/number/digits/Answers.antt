@@ -1,29 +1,39 @@
 -- `reading::number::digits` meets its contract. Assumes nothing.
-use mathlib.Core.Path.{sym, ◌∙◌}
+use mathlib.Core.Path.{◌≡◌, sym, ◌∙◌}
+use Prim.Native.Nat.{◌+◌, ◌-◌, ◌*◌}
 use native.Mathlib.Omega.{arith}
-use Rattle.reading.proofs.Laws.Number.{low-at, high-at, large-at, digit_at, digits-end}
+use lib.ListN.{get_or}
+use Rattle.reading.proofs.Laws.Number.{other-at, large-at, digit_at, digits-end}
 use Rattle.reading.proofs.number.digits.Goals as goal
 
-pub returns-then-b-lt48 : goal.returns-then-b-lt48
-returns-then-b-lt48 c = let l = c.loop-i in sym (low-at c.args.s.now l.n l.i (omega arith) (omega arith)) ∙ l.invariant.2
+pub returns-then-not-is_ascii_digit : goal.returns-then-not-is_ascii_digit
+returns-then-not-is_ascii_digit c =
+    let l = c.loop-b in
+    let e = sym c.is_ascii_digit.ensures.value ∙ c.if-not-is_ascii_digit.true in
+    sym (other-at c.args.s.now l.n l.b-index c.loop-b-test.true e) ∙ l.invariant.1
 
-pub returns-then-b-gt57 : goal.returns-then-b-gt57
-returns-then-b-gt57 c = let l = c.loop-i in sym (high-at c.args.s.now l.n l.i (omega arith) (omega arith)) ∙ l.invariant.2
+pub returns-in_err-checked_mul : goal.returns-in_err-checked_mul
+returns-in_err-checked_mul c =
+    let l = c.loop-b in
+    c.from_residual.ensures
+    ∙ sym (large-at c.args.s.now l.n l.b-index c.loop-b-test.true (omega (arith, c.in_err-checked_mul.ensures)))
+    ∙ l.invariant.1
 
-pub returns-then-n-gt1844674407370955161 : goal.returns-then-n-gt1844674407370955161
-returns-then-n-gt1844674407370955161 c = let l = c.loop-i in sym (large-at c.args.s.now l.n l.i (omega arith) (omega arith))
-    ∙ l.invariant.2
+pub returns-in_err-n : goal.returns-in_err-n
+returns-in_err-n c =
+    let l = c.loop-b in
+    c.from_residual-in_err-n.ensures
+    ∙ sym
+    (large-at c.args.s.now l.n l.b-index c.loop-b-test.true (omega (arith, c.in_ok-checked_mul.ensures, c.in_err-n.ensures)))
+    ∙ l.invariant.1
 
-pub returns-then-d-n : goal.returns-then-d-n
-returns-then-d-n c = let l = c.loop-i in sym (large-at c.args.s.now l.n l.i (omega arith) (omega arith)) ∙ l.invariant.2
-
-pub loop-i-preserved : goal.loop-i-preserved
-loop-i-preserved c = let l = c.loop-i in (
-  omega arith,
-  omega arith,
-  sym
-      (digit_at c.args.s.now l.n l.i (omega arith) (omega arith) (omega arith)) ∙ l.invariant.2,
-)
+pub loop-b-preserved : goal.loop-b-preserved
+loop-b-preserved c =
+    let l = c.loop-b in
+    let e = sym c.is_ascii_digit.ensures.value ∙ c.if-not-is_ascii_digit.false in
+    let d = get_or c.args.s.now l.b-index 0 - 48 in
+    let n : c.in_ok-n.n ≡ l.n * 10 + d = omega (arith, c.in_ok-checked_mul.ensures, c.in_ok-n.ensures) in
+    (omega (arith, c.in_ok-n.ensures, n), sym (digit_at c.args.s.now l.n l.b-index c.loop-b-test.true c.in_ok-n.n n e) ∙ l.invariant.1)
 
 pub returns : goal.returns
-returns c = let l = c.loop-i in sym (digits-end c.args.s.now l.n l.i (omega arith) (omega arith)) ∙ l.invariant.2
+returns c = let l = c.loop-b in sym (digits-end c.args.s.now l.n l.b-index (omega arith) l.invariant.0) ∙ l.invariant.1

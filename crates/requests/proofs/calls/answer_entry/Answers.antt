@@ -17,8 +17,3 @@ pub returns-then-preview : goal.returns-then-preview
 returns-then-preview c =
     let seen = previewed house c.args.plant c.args.request c.answer_request-outcome.ensures.outcome in
     record { outcome = by_kind _ _ _ c.if-preview.true seen.0; tells = seen.1 }
-
-pub returns-else-preview : goal.returns-else-preview
-returns-else-preview c =
-    let done = c.answer_request-outcome.ensures in
-    record { outcome = by_kind _ _ _ c.if-preview.false done.outcome; tells = done.tells }

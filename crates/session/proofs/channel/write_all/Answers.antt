@@ -1,19 +1,28 @@
 -- What is written grows by what the last write took.
-use Rattle.std.proofs.Common.{rules, ℕ, ◌+◌, ◌-◌, List, sym, subst, length, take, drop}
-use Rattle.std.proofs.Math.Seq.{take-add}
+use Rattle.std.proofs.Common.{◌≡◌, ℕ, ◌-◌, List, ◌++◌, length, take, drop, sym, ap, ◌∙◌, append_assoc, take-append-drop, Bor}
 use Rattle.std.proofs.lemmas.List.{take_rest}
-use Rattle.std.specs.declared.option.Option.{Option}
-use Rattle.std.specs.Io.KnownBytes.{Appends}
-use Rattle.std.proofs.KnownBytes.{Appends-trans}
+use Rattle.std.proofs.KnownBytes.{Appends-trans, Appends-kept}
 use Rattle.session.proofs.channel.write_all.Goals as goal
+use Rattle.session.proofs.channel.write_all.Goals.{in-Ok, in-Err}
 
-grows : (a b c : Option (List ℕ)) (done n : ℕ) (s : List ℕ) → Appends a b (take done s)
-    → Appends b c (take n (take (length s - done) (drop done s))) → Appends a c (take (done + n) s)
-grows a b c done n s p q =
-    let more = subst (λ (r : List ℕ). Appends b c (take n r)) (take_rest s done) q in
-    subst (Appends a c) (sym (take-add done n s)) (Appends-trans a b c _ _ p more)
+moves_on : (s done rest more : List ℕ) (n : ℕ) → s ≡ done ++ rest → more ≡ take (length rest - n) (drop n rest) → s ≡ (done ++ take n rest) ++ more
+moves_on s done rest more n e r =
+    e ∙ ap (λ l. done ++ l) (sym (take-append-drop n rest) ∙ ap (λ l. take n rest ++ l) (sym (r ∙ take_rest rest n)))
+    ∙ sym (append_assoc done (take n rest) more)
 
-pub loop-done-preserved : goal.loop-done-preserved
-loop-done-preserved g c =
-    let (within, written) = c.loop-done.invariant in
-    (search rules, grows _ _ _ _ _ _ written c.write_some-n.ensures.bytes)
+pub loop-preserved : goal.loop-preserved
+loop-preserved g c =
+    let (done, split, written) = c.loop.invariant in
+    let rest = c.loop.rest.now in
+    elim c.match-write.branch [
+      | in-Ok w ↦ (
+        done ++ take w.in-Ok.n rest,
+        moves_on _ done rest _ w.in-Ok.n split (ap (λ (r : Bor (List ℕ)). r.now) w.rest-is),
+        Appends-trans _ _ _ _ _ written w.in-Ok.ensures.bytes,
+      )
+      | in-Err w ↦ (
+        done,
+        split ∙ ap (λ (r : Bor (List ℕ)). done ++ r.now) (sym w.rest-is),
+        Appends-kept _ _ _ _ written w.in-Err.ensures.bytes,
+      )
+    ]

@@ -1,11 +1,7 @@
--- What is done is a part of the bytes, and is written; each write does more.
-use Rattle.std.proofs.Common.{length, ◌-◌, ◌≤◌, take}
+-- What is written and what is left are the bytes.
+use Rattle.std.proofs.Common.{List, ℕ, ◌≡◌, ◌++◌}
 use Rattle.std.specs.Io.KnownBytes.{Appends}
 use Rattle.session.proofs.channel.write_all.Given as goal
 
-abbrev pub invariant-loop-done : goal.invariant-loop-done
-invariant-loop-done g l = (l.done ≤ length l.s) × Appends (g.O.Write.contents l.initial.to) (g.O.Write.contents l.to)
-    (take l.done l.s)
-
-abbrev pub decreases-loop-done : goal.decreases-loop-done
-decreases-loop-done g l = length l.s - l.done
+abbrev pub invariant-loop : goal.invariant-loop
+invariant-loop g l = (done : List ℕ) × (l.s ≡ done ++ l.rest) × Appends (g.O.Write.contents l.initial.to) (g.O.Write.contents l.to) done

@@ -10,7 +10,7 @@ use Rattle.session.proofs.talking.talk_over.Given as goal
 
 abbrev pub invariant-loop : goal.invariant-loop
 invariant-loop g l =
-    (l.p.held ≤ 1025) × (l.p.at ≡ 0) × (length l.line ≡ 1025) × (length l.out ≡ 65536) × (length l.input ≡ length l.initial.input)
+    (l.p.held ≤ 1025) × (l.p.at ≡ 0) × (length l.input ≡ length l.initial.input)
     × ((xs : List ℕ)
     × Consumes (g.I.Read.remaining l.initial.from) (g.I.Read.remaining l.from) xs
     × Appends (g.O.Write.contents l.initial.to) (g.O.Write.contents l.to) (run house (start fresh_plant) xs).printed

@@ -1,17 +1,18 @@
 -- `sheets::call::receive_sheet` meets its contract. Assumes nothing.
+use mathlib.Core.Path.{◌∙◌, ap}
 use Rattle.vectors.specs.Figures.{house}
+use Rattle.plant.specs.Calls.{step, receiving}
 use Rattle.sheets.proofs.Laws.Sheet.{limits-below, sheet-received, sheet-turned}
-use borrow.Author.Rules.{rules}
 use Rattle.sheets.proofs.call.receive_sheet.Goals as goal
 
-pub received-requires : goal.received-requires
-received-requires c =
-    limits-below _ _ c.read_sheet-s.ensures (search rules)
+pub unseen_in-unseen-requires : goal.unseen_in-unseen-requires
+unseen_in-unseen-requires c = limits-below c.args.sheet c.in-Ok.readings c.in-Ok.ensures
 
-pub returns-then-s-eq0 : goal.returns-then-s-eq0
-returns-then-s-eq0 c =
-    sheet-received _ _ c.read_sheet-s.ensures house _ (search rules) c.receive-o.ensures.outcome c.received.ensures
+pub returns-in-Ok : goal.returns-in-Ok
+returns-in-Ok c =
+    let a = c.args in
+    sheet-received a.sheet c.in-Ok.readings c.in-Ok.ensures house a.plant c.unseen_in-unseen.ensures
+    (c.receive.ensures.outcome ∙ ap (λ v. step house a.plant (receiving v)) c.counts_of.ensures) c.received.ensures
 
-pub returns : goal.returns
-returns c =
-    sheet-turned _ _ c.read_sheet-s.ensures house _ (search rules) c.refused.ensures
+pub returns-in-Err : goal.returns-in-Err
+returns-in-Err c = sheet-turned c.args.sheet c.in-Err.refusal c.in-Err.ensures house c.args.plant

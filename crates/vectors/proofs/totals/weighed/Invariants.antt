@@ -1,12 +1,9 @@
 -- Loops of `totals::weighed`.
 use mathlib.Core.Path.{◌≡◌}
-use Prim.Native.Nat.{◌+◌, ◌-◌, ◌≤◌}
-use lib.ListN.{length, drop}
+use Prim.Native.Nat.{◌+◌}
+use lib.ListN.{drop}
 use Rattle.vectors.specs.Totals.{weigh, weigh_from}
 use Rattle.vectors.proofs.totals.weighed.Given as goal
 
 abbrev pub invariant-loop-i : goal.invariant-loop-i
-invariant-loop-i l = (l.sum + weigh_from l.i (drop l.i l.w) l.v ≡ weigh l.w l.v) × (l.i ≤ length l.w)
-
-abbrev pub decreases-loop-i : goal.decreases-loop-i
-decreases-loop-i l = length l.w - l.i
+invariant-loop-i g l = l.sum + weigh_from l.i (drop l.i l.weights) l.v ≡ weigh l.weights l.v

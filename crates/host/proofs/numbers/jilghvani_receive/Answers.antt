@@ -1,7 +1,0 @@
--- `host::numbers::jilghvani_receive` meets its contract. Assumes nothing.
-use Rattle.host.proofs.Laws.Calls.{called}
-use Rattle.host.proofs.numbers.jilghvani_receive.Goals as goal
-
-pub returns : goal.returns
-returns c =
-    called c.plant_at-p.ensures c.receive-o.ensures.outcome c.put_outcome.ensures

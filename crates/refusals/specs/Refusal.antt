@@ -1,0 +1,29 @@
+-- Refusals: document 01, "What the link sends away", and document 02, E6.
+--
+--   Refusal     the enum of the code
+--   number      its number in the table
+--   number_of   the same, and 0 where there is none
+use Rattle.std.specs.Prelude.{ℕ, Option, None, Some}
+use Rattle.refusals.specs.declared.Refusal.{Refusal}
+use Rattle.refusals.specs.declared.Refusal.TheVariants.{RecordAbove, NotThousandths, ColumnAbove, FeedShort, ReturnShort, Overburnt, CodOpen, TknOpen, CarriedOpen, TankAbove, NoForm, ShortBuffer, NoAmount, CountAbove, Other}
+
+abbrev pub number : Refusal → ℕ
+number RecordAbove = 1  -- a column of the record is above its ceiling
+number NotThousandths = 2  -- k is not 1 to 1000
+number ColumnAbove = 3  -- a column that is received or proposed is above its ceiling
+number FeedShort = 4  -- inert nitrogen is short on feed
+number ReturnShort = 5  -- and on return
+number Overburnt = 6  -- burnt COD is above A
+number CodOpen = 7  -- the proposal's COD is open
+number TknOpen = 8  -- its TKN differs
+number CarriedOpen = 9  -- co or cn differs
+number TankAbove = 10  -- a column of the destination would pass its ceiling
+number NoForm = 11  -- a line is no form
+number ShortBuffer = 12  -- the answer's buffer is under 512 bytes
+number NoAmount = 13  -- E6: a value is negative, infinite or no number
+number CountAbove = 14  -- E6: a count is above its column's ceiling
+number (Other n) = n
+
+abbrev pub number_of : Option Refusal → ℕ
+number_of None = 0
+number_of (Some r) = number r
