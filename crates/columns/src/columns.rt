@@ -5,6 +5,7 @@ ghost use Rattle.columns.specs.Counts.{asm1_counts, digester_counts};
 
 use vectors::{Milligrams, Millimoles, Ticks};
 
+// Two structs and not one: document 01 gives their columns other names.
 #[derive(Clone, Copy)]
 pub struct Asm1 {
     pub si: Milligrams,

@@ -27,7 +27,8 @@ pub fn write_line(buf: &mut [u8], r: Request, preview: bool) -> Result<usize, Re
 }
 
 // The same, and hands back the part of the buffer that the line and its newline fill, shared. The buffer goes into the result, so that
-// this contract says nothing of the bytes behind the part; `write_line`, which it calls, settles them.
+// this contract says nothing of the bytes behind the part; `write_line`, which it calls, settles them. It and
+// `filled_answer` of writing share `filled_part`, and no more.
 pub fn filled_line<'a>(buf: &'a mut [u8], r: Request, preview: bool) -> &'a [u8]
     ensures { (result.now ≡ written_text (length buf.old) preview r) × (result.ref_ptr ≡ buf.entry.ref_ptr) }
 {

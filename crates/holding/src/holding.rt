@@ -38,6 +38,7 @@ struct Tanks {
     ghost low: { RecordBelow plant },
 }
 
+// Four totals, each of other columns and in its own unit.
 impl Tanks {
     fn cod(self) -> Milligrams
         ensures { result.0 ≡ cod_in self.plant }

@@ -7,6 +7,8 @@ use crate::feed::{Fed, feed_of};
 use crate::returning::{Returned, return_of};
 use refusals::{Refusal, unless};
 
+// Two functions of two lines: one for both would take the conversion as a closure, and be no plainer.
+
 // ASM1 to digester. Refusals 3, 4 and 6.
 pub fn asm_to_adm(v: [u64; 13]) -> Result<Fed, Refusal>
     ensures { result ≡ asm_to_adm house v }

@@ -51,7 +51,8 @@ pub struct HeldOutcome {
     pub length: usize,
 }
 
-// Writes the held line without its newline; under 12 the buffer is left as it is.
+// Writes the held line without its newline; under 12 the buffer is left as it is. It is no twin of `answer_line`, which runs a call and
+// hands its record on.
 pub fn held_line(plant: Plant, buf: &mut [u8]) -> HeldOutcome
     ensures { HeldAnswered house plant buf.old result buf.new }
 {

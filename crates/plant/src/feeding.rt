@@ -1,4 +1,5 @@
-// Feed draws k thousandths of the sludge tank, converts them and adds them to the digester.
+// Feed draws k thousandths of the sludge tank, converts them and adds them to the digester. Its draw, and that of return, release and
+// recycle, are two lines in each: a function for all would take the tank, its rest and the record behind it, and be longer.
 ghost use Rattle.std.specs.Prelude.{◌≡◌};
 ghost use Rattle.vectors.specs.Figures.{house};
 ghost use Rattle.plant.specs.Answer.{told};

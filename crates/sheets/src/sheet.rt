@@ -47,7 +47,7 @@ fn scales() -> [Scale; 13]
     ]
 }
 
-// What the entries count as.
+// What the entries count as. Beside `limits_of` it names which number of an entry is taken, which a closure would not.
 pub fn counts_of(readings: [Finding<u64>; 13]) -> [u64; 13]
     ensures { result ≡ map count readings }
 {

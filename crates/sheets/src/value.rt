@@ -4,9 +4,6 @@ ghost use Rattle.sheets.specs.Value.{counted_of, capped, size_of};
 
 use refusals::Refusal;
 
-// The exponent's field of infinity, and of what is no number.
-const TOP_FIELD: u32 = 255;
-
 // How a column counts: its counts to the gram or to the mole, and its ceiling.
 #[derive(Clone, Copy)]
 pub struct Scale {
@@ -16,16 +13,16 @@ pub struct Scale {
 }
 
 impl Scale {
-    // Refusals 13 and 14. A NaN is not at least zero, nor is a value below zero, so that the bits that are read are those of a number,
-    // of minus zero or of infinity. The library has no method for the parts of a float, so that they are taken off the bits.
+    // Refusals 13 and 14. A value below zero is not at least zero, so that the bits that are read are those of a number or of minus zero.
+    // The library has no method for the exponent and the digits of a float, so that they are taken off the bits.
     pub fn count(self, x: f32) -> Result<u64, Refusal>
         ensures { result ≡ counted_of self.per_unit self.ceiling x }
     {
-        if x >= 0.0 {
-            let bits = x.to_bits();
-            let field = bits % 0x80000000 / 0x800000;
-            let digits = bits % 0x800000;
-            if field < TOP_FIELD {
+        if x.is_finite() {
+            if x >= 0.0 {
+                let bits = x.to_bits();
+                let field = bits % 0x80000000 / 0x800000;
+                let digits = bits % 0x800000;
                 let (m, k) = parts(field, digits);
                 return self.count_size(m, k);
             }

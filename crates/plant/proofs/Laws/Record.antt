@@ -3,11 +3,11 @@
 --   sludge-within, digester-within, reject-within   the tanks of a record that is within its ceilings
 --   thousandths-le                                  a k that passes is at most 1000
 --   drawable                                        what a draw asks, by the two tests of the code: of the tank, and of k
---   closes, closes-not                              COD that closes, tested without a sum
+--   closes                                          COD that closes, tested without a sum
 --   and-true, and-false                             a conjunction, by its first part
 use mathlib.Core.Bool.{Bool, true, false, ◌&&◌}
 use mathlib.Core.Path.{◌≡◌, refl, sym, ◌∙◌}
-use Prim.Native.Nat.{ℕ, ◌+◌, ◌-◌, ◌≤◌, ◌<◌}
+use Prim.Native.Nat.{ℕ, ◌+◌, ◌-◌, ◌≤◌}
 use native.Mathlib.Omega.{arith}
 use lib.Dec.{leb, eqb}
 use borrow.Author.Tests.{leb-true, eqb-true, eqb-false, eq-eqb, ne_eqb}
@@ -50,6 +50,3 @@ closes old new gas h = go (eqb (old - new) gas) refl
     go : (b : Bool) → eqb (old - new) gas ≡ b → b ≡ eqb old (new + gas)
     go true e = sym (eq-eqb old (new + gas) (omega (arith, eqb-true (old - new) gas e)))
     go false e = sym (ne_eqb old (new + gas) (λ z. eqb-false (old - new) gas e (omega arith)))
-
-pub closes-not : (old new gas : ℕ) → old < new → false ≡ eqb old (new + gas)
-closes-not old new gas h = sym (ne_eqb old (new + gas) (λ z. omega arith))

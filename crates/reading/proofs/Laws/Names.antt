@@ -4,7 +4,7 @@
 --   column-from                             a search that begins at a later column, where no name stands twice
 --   unpadded-length, unpadded-at            the names of a table, by their places
 --   unpadded-other                          a name with another second byte
---   asm1-names, asm1-name, digester-names, digester-name   the code's tables
+--   asm1-names, digester-names   the code's tables
 use mathlib.Core.Bool.{Bool, true, false, cond, ◌&&◌, and-false, false≢true}
 use mathlib.Core.List.{List, [], ◌∷◌}
 use mathlib.Core.Path.{◌≡◌, refl, sym, ap, ◌∙◌}
@@ -128,9 +128,3 @@ asm1-names = refl
 pub digester-names : unpadded_all DIGESTER_NAMES ≡ names_of Digester
 unfolding up_to
 digester-names = refl
-
-pub asm1-name : (c : ℕ) → c < 13 → unpadded (get_or ASM1_NAMES c []) ≡ get_or (names_of Sludge) c []
-asm1-name c h = sym (unpadded-at ASM1_NAMES c h) ∙ ap (λ (ns : List (List ℕ)). get_or ns c []) asm1-names
-
-pub digester-name : (c : ℕ) → c < 26 → unpadded (get_or DIGESTER_NAMES c []) ≡ get_or (names_of Digester) c []
-digester-name c h = sym (unpadded-at DIGESTER_NAMES c h) ∙ ap (λ (ns : List (List ℕ)). get_or ns c []) digester-names

@@ -2,11 +2,10 @@
 --
 --   count-by-value                  the count of a float, by any fraction that it is
 --   fields_value                    the fraction that a float's fields stand for, in units of 2^-149
---   fields-top                      the highest field is an infinity's or a NaN's
+--   fields-top, field-below         the highest field is an infinity's or a NaN's, so that a finite float's is below it
 --   countable-..                    what the test "at least zero" tells: a finite one that passes can be counted, one that fails cannot
 --   bits-counted                    what the code reads off the bits is the float's count
---   bits-uncounted                  the highest field, read off the bits, is that of a float that cannot be counted
---   test-uncounted                  a test that fails
+--   infinite-uncounted, test-uncounted   the tests that fail
 --   shr-or, shl-or                  a shift of 64 places or more
 --   size-..                         m × 2^k of the smallest values, scaled: for k below 149, and from there on
 --   counted-le, count-le, limit-le  no count is above the ceiling, neither what an entry counts as nor its limit's
@@ -29,6 +28,7 @@ use borrow.Author.Tests.{leb-true, ne_eqb}
 use Rattle.vectors.proofs.Laws.Columns.{both_true}
 use Rattle.std.specs.Prelude.{Option, None, Some, Result, Ok, Err}
 use Rattle.std.specs.Option.{SomeIff, unwrap_or}
+use Rattle.std.specs.Float.{float_is_finite}
 use Rattle.std.specs.Result.{result_map_both}
 use Rattle.refusals.specs.declared.Refusal.{Refusal}
 use Rattle.refusals.specs.declared.Refusal.TheVariants.{NoAmount, CountAbove}
@@ -59,11 +59,14 @@ fields_value s (suc x) t h =
     rw (ne_eqb (suc x) 255 (omega arith))
     (subst (λ (n : ℕ). HasValue (odd 24 s (8388608 + t) x 149) s n (2 ^ 149)) (sym (size-suc x t)) (odd_sign 24 s (8388608 + t) x 149))
 
-pub fields-top : (s : Bool) (field digits : ℕ) → field ≡ 255 → countable (of_fields binary32 s field digits) ≡ false
-unfolding of_fields countable
+true-false : true ≡ false → ⊥
+true-false e = cc
+
+fields-top : (s : Bool) (field digits : ℕ) → field ≡ 255 → float_is_finite (of_fields binary32 s field digits) ≡ false
+unfolding of_fields float_is_finite
 fields-top s field t e = rw e (go (eqb t 0))
   where
-    go : (b : Bool) → countable (cond b (inf s) nan) ≡ false
+    go : (b : Bool) → float_is_finite (cond b (inf s) nan) ≡ false
     go true = refl
     go false = refl
 
@@ -89,9 +92,6 @@ countable-passed (inf t) s a c v e = absurd v
 countable-passed (fin false m z) s a c v e = refl
 countable-passed (fin true m z) s a c v e =
     rw (no-product m (up z) (up_pos z) (sym (mul-one (m * up z)) ∙ level-zero (0 * 1 * down z) (m * up z * 1) e))
-
-true-false : true ≡ false → ⊥
-true-false e = cc
 
 minus-zero : (z : ℤ) → le zero_float (fin true 0 z) ≡ true
 unfolding le lt eq
@@ -129,14 +129,19 @@ bits-counted x scale ceiling h p l =
     rw (countable-passed x s (size_of field digits) (2 ^ 149) v p)
     (ap (capped ceiling) (sym (count-by-value x s (size_of field digits) (2 ^ 149) scale (pow_pos 149) v)))
 
-pub bits-uncounted : (x : Float) (scale ceiling : ℕ) → T (fits binary32 x)
-    → let b = to_bits binary32 x in 255 ≤ b % 2147483648 / 8388608 → Err NoAmount ≡ counted_of scale ceiling x
-unfolding counted_of
-bits-uncounted x scale ceiling h l =
+pub field-below : (x : Float) → T (fits binary32 x) → float_is_finite x ≡ true → to_bits binary32 x % 2147483648 / 8388608 < 255
+field-below x h p =
     let b = to_bits binary32 x in
     let field = b % 2147483648 / 8388608 in
-    let e : countable x ≡ false = ap countable (bits-fields x h) ∙ fields-top (leb 2147483648 b) field (b % 8388608) (omega arith) in
-    rw e
+    let n : field ≡ 255 → ⊥ = λ e. true-false
+    (sym p ∙ ap float_is_finite (bits-fields x h) ∙ fields-top (leb 2147483648 b) field (b % 8388608) e) in
+    omega arith
+
+pub infinite-uncounted : (x : Float) (scale ceiling : ℕ) → float_is_finite x ≡ false → Err NoAmount ≡ counted_of scale ceiling x
+unfolding counted_of countable float_is_finite
+infinite-uncounted nan scale ceiling e = refl
+infinite-uncounted (inf s) scale ceiling e = refl
+infinite-uncounted (fin s m z) scale ceiling e = absurd (true-false e)
 
 pub test-uncounted : (x : Float) (scale ceiling : ℕ) → le zero_float x ≡ false → Err NoAmount ≡ counted_of scale ceiling x
 unfolding counted_of

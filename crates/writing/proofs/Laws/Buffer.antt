@@ -1,19 +1,18 @@
 -- Laws of writing into a buffer. Assumes nothing.
 --
---   put_byte, put-none, put-more, put_all   one byte, and a loop that copies
+--   put-none    nothing, put anywhere
 --   put_first                               bytes at the start
 --   put_then                                two writers, one behind the other, are one
 --   put_same                                the bytes under another name
 --   put-left, put-fits, put-room            bytes that do not fit, and bytes that do
 --   answered, filled                        an answer at the start, and the part that it fills
-use mathlib.Core.List.{List, [], ◌∷◌, ◌++◌, append_assoc}
+use mathlib.Core.List.{List, [], ◌++◌, append_assoc}
 use mathlib.Core.Path.{◌≡◌, sym, ap, subst, ◌∙◌}
 use Prim.Native.Nat.{ℕ, ◌+◌, ◌≤◌, ◌<◌}
 use native.Mathlib.Nat.{zero-add, add-zero, add_assoc}
-use native.Mathlib.Numerals.{add-one}
 use native.Mathlib.Omega.{arith}
-use lib.ListN.{get_or, take-append-drop, length, take, drop, set, length-append, length-drop}
-use lib.Seq.{take-suc, take_all, drop-drop, length-take-le, set_split, take_at, drop_at}
+use lib.ListN.{take-append-drop, length, take, drop, length-append, length-drop}
+use lib.Seq.{drop-drop, length-take-le, take_at, drop_at}
 use mathlib.Core.Bool.{cond}
 use borrow.Author.Tests.{le-leb, lt-leb}
 use Rattle.writing.specs.Buffer.{put_at, Put, fitted, Answered}
@@ -40,28 +39,9 @@ put-put d at a b h =
     let u : drop (at + (length a + length b)) L ≡ drop (at + (length a + length b)) d = ap (λ (k : ℕ). drop k L) (sym e) ∙ t ∙ ap (λ (k : ℕ). drop k d) e in
     simp (q, u, append_assoc, length-append, add_assoc)
 
--- ---- one byte, and a loop that copies s
-
-pub put_byte : (d : List ℕ) (at b : ℕ) → at < length d → set d at b ≡ put_at d at (b ∷ [])
-unfolding put_at
-put_byte d at b h = set_split d at b h ∙ rw add-one
-
 pub put-none : (d : List ℕ) (at : ℕ) (s : List ℕ) → d ≡ put_at d at (take 0 s)
 unfolding put_at
 put-none d at s = sym (rw add-zero (take-append-drop at d))
-
-pub put-more : (d : List ℕ) (at : ℕ) (s : List ℕ) (i : ℕ) → i < length s → at + length s ≤ length d
-    → set (put_at d at (take i s)) (at + i) (get_or s i 0) ≡ put_at d at (take (i + 1) s)
-put-more d at s i h k =
-    let l : length (take i s) ≡ i = length-take-le i s (omega arith) in
-    let e = put_at d at (take i s) in
-    put_byte e (at + i) (get_or s i 0) (omega (arith, length-put d at (take i s) (omega arith)))
-    ∙ ap (λ (j : ℕ). put_at e (at + j) (get_or s i 0 ∷ [])) (sym l)
-    ∙ put-put d at (take i s) (get_or s i 0 ∷ []) (omega arith)
-    ∙ ap (put_at d at) (sym (take-suc s i 0 h) ∙ ap (λ (j : ℕ). take j s) (sym (add-one i)))
-
-pub put_all : (d : List ℕ) (at : ℕ) (s : List ℕ) (i : ℕ) → length s ≤ i → put_at d at (take i s) ≡ put_at d at s
-put_all d at s i h = ap (put_at d at) (take_all i s h)
 
 -- ---- writers one behind the other
 
