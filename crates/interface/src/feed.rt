@@ -28,46 +28,262 @@ pub fn feed_of(f: Figures, c: [u64; 13]) -> Result<Fed, Refusal>
     requires { (Permitted f) × (Below asm1_ceilings c) }
     ensures { result ≡ feed_of f c }
 {
-    feed_asm1(f, Asm1::from(c))
+    let drawn = Drawn {
+        figures: f,
+        vector: Asm1::from(c),
+    };
+    drawn.convert()
 }
 
-// The same of a vector by its names: 4 where q > P + snh, else 6 where D > A, else the five stages.
-fn feed_asm1(f: Figures, v: Asm1) -> Result<Fed, Refusal>
-    requires { (Permitted f) × (Low v) }
-    ensures { result ≡ feed_asm1 f (asm1_counts v) }
-{
-    let demand = demand_of(v);
-    let left = left_of(v, demand);
-    let acids = acids_of(f, v, left);
-    let pool = pool_of(f, v, acids);
-    let inerts = inerts_of(f, v, pool)?;
-    if demand.a < demand.d {
-        return Err(Refusal::Overburnt);
+// An ASM1 vector by its names, and the figures of its conversion, so that the sums fit.
+#[derive(Clone, Copy)]
+struct Drawn {
+    figures: Figures,
+    vector: Asm1,
+    ghost permitted: { Permitted figures },
+    ghost low: { Low vector },
+}
+
+// The conversion, and its stages in their order.
+impl Drawn {
+    // 4 where q > P + snh, else 6 where D > A, else the five stages.
+    fn convert(self) -> Result<Fed, Refusal>
+        ensures { result ≡ feed_asm1 self.figures (asm1_counts self.vector) }
+    {
+        let demand = self.demand();
+        let left = self.left(demand);
+        let acids = self.acids(left);
+        let pool = self.pool(acids);
+        let inerts = self.inerts(pool)?;
+        if demand.a < demand.d {
+            return Err(Refusal::Overburnt);
+        }
+        let remains = self.remains(left, inerts);
+        let staged = Staged {
+            drawn: self,
+            demand,
+            left,
+            acids,
+            inerts,
+            remains,
+        };
+        Ok(staged.told())
     }
-    let remains = remains_of(f, v, left, inerts);
-    Ok(feed_taken(f, v, demand, left, acids, inerts, remains))
+
+    // Stage 1, what oxygen and nitrate burn. Each path has one division: covered nitrate is reduced whole (`CoveredLaw`), and
+    // `nitrate_cod` divides; where COD is short all of it is burnt (`ShortLaw`), and `reducible` divides.
+    fn demand(self) -> Demand
+        ensures { Demands result (stage1 nitrate_rule (asm1_counts self.vector)) }
+    {
+        let v = self.vector;
+        let a = v.ss.plus(v.xs).plus(v.xbh).plus(v.xba);
+        let o = v.so.min(a);
+        let x = a.less(o);
+        if is_covered(v.sno, x) {
+            return Demand {
+                a,
+                o,
+                r: v.sno,
+                d: o.plus(nitrate_cod(v.sno)),
+            };
+        }
+        let r = reducible(x);
+        short_demand(a, o, r)
+    }
+
+    // Stage 1, what is left: D is taken from ss, then xs, xbh, xba.
+    fn left(self, demand: Demand) -> Left
+        requires { Demands demand (stage1 nitrate_rule (asm1_counts self.vector)) }
+        ensures { Leaves result (stage1 nitrate_rule (asm1_counts self.vector)) }
+    {
+        let v = self.vector;
+        let behind_ss = demand.d.less(v.ss);
+        let behind_xs = behind_ss.less(v.xs);
+        let behind_xbh = behind_xs.less(v.xbh);
+        let co = v.so.less(demand.o);
+        let cn = v.sno.less(demand.r);
+        Left {
+            ss: v.ss.less(demand.d),
+            xs: v.xs.less(behind_ss),
+            xbh: v.xbh.less(behind_xs),
+            xba: v.xba.less(behind_xbh),
+            co,
+            cn,
+            warn: warn_of(co, cn),
+        }
+    }
+
+    // Stage 2.
+    fn acids(self, left: Left) -> Acids
+        requires { Leaves left (stage1 nitrate_rule (asm1_counts self.vector)) }
+        ensures { AcidsHeld result (stages self.figures (asm1_counts self.vector)).s2 }
+    {
+        let saa = afforded(left.ss, self.vector.snd, self.figures.naa);
+        Acids {
+            saa,
+            ssu: left.ss.less(saa),
+        }
+    }
+
+    // Stage 3, the pool of organic nitrogen. Biomass counts as it was before stage 1.
+    fn pool(self, acids: Acids) -> Ticks
+        requires { AcidsHeld acids (stages self.figures (asm1_counts self.vector)).s2 }
+        ensures { (result.0 ≡ (stages self.figures (asm1_counts self.vector)).P) × (result.0 ≤ 60000000000000000) }
+    {
+        let f = self.figures;
+        let v = self.vector;
+        let soluble = v.snd.less(nitrogen(f.naa, acids.saa));
+        let biomass = nitrogen(f.ixb, v.xbh.plus(v.xba));
+        let inert = nitrogen(f.ixe, v.xi.plus(v.xp));
+        soluble.plus(v.xnd).plus(biomass).plus(inert)
+    }
+
+    // Stage 4. Refusal 4 where nitrogen is short.
+    fn inerts(self, pool: Ticks) -> Result<Inerts, Refusal>
+        requires { (pool.0 ≡ (stages self.figures (asm1_counts self.vector)).P) × (pool.0 ≤ 60000000000000000) }
+        ensures { InertsGiven result (stages self.figures (asm1_counts self.vector)).s4 (self.vector.xi.0 + self.vector.xp.0) }
+    {
+        let f = self.figures;
+        let v = self.vector;
+        let xi = share(v.xi.plus(v.xp), f.fxi, 10000);
+        let q = nitrogen(f.ni, v.si.plus(xi));
+        if pool.plus(v.snh) < q {
+            return Err(Refusal::FeedShort);
+        }
+        Ok(Inerts {
+            xi,
+            pool: pool.less(q),
+            ammonia: v.snh.less(q.less(pool)),
+        })
+    }
+
+    // Stage 5.
+    fn remains(self, left: Left, inerts: Inerts) -> Remains
+        requires { (Leaves left (stage1 nitrate_rule (asm1_counts self.vector))) × (InertsHeld inerts (stages self.figures (asm1_counts self.vector)).s4 (self.vector.xi.0 + self.vector.xp.0)) }
+        ensures { RemainsHeld result (stages self.figures (asm1_counts self.vector)).s5 }
+    {
+        let f = self.figures;
+        let v = self.vector;
+        let particulate = left.xs.plus(left.xbh).plus(left.xba).plus(v.xi).plus(v.xp);
+        let all = particulate.less(inerts.xi);
+        let xc = afforded(all, inerts.pool, f.nxc);
+        let rest = all.less(xc);
+        let xch = share(rest, f.fch, f.fch + f.fli);
+        Remains {
+            xc,
+            xch,
+            xli: rest.less(xch),
+            sin: inerts.ammonia.plus(inerts.pool).less(nitrogen(f.nxc, xc)),
+        }
+    }
 }
 
-// What an accepted conversion tells, with its vector.
-fn feed_taken(
-    f: Figures,
-    v: Asm1,
+// The results of all stages of a vector that neither refusal meets.
+#[derive(Clone, Copy)]
+struct Staged {
+    drawn: Drawn,
     demand: Demand,
     left: Left,
     acids: Acids,
     inerts: Inerts,
     remains: Remains,
-) -> Fed
-    requires { (Demands demand (stage1 nitrate_rule (asm1_counts v))) × (StagesHeld left acids inerts remains (v.xi.0 + v.xp.0) (stages f (asm1_counts v))) }
-    ensures { result ≡ feed_taken (asm1_counts v) (stages f (asm1_counts v)) }
-{
-    Fed {
-        burnt: demand.d,
-        oxygen: demand.o,
-        nitrate: demand.r,
-        warn: left.warn,
-        vector: <[u64; 26]>::from(fed_vector(f, v, left, acids, inerts, remains)),
+    ghost demands: { Demands demand (stage1 nitrate_rule (asm1_counts drawn.vector)) },
+    ghost held: { StagesHeld left acids inerts remains (drawn.vector.xi.0 + drawn.vector.xp.0) (stages drawn.figures (asm1_counts drawn.vector)) },
+}
+
+// The answer of an accepted conversion.
+impl Staged {
+    // What it tells, with its vector.
+    fn told(self) -> Fed
+        ensures { result ≡ feed_taken (asm1_counts self.drawn.vector) (stages self.drawn.figures (asm1_counts self.drawn.vector)) }
+    {
+        Fed {
+            burnt: self.demand.d,
+            oxygen: self.demand.o,
+            nitrate: self.demand.r,
+            warn: self.left.warn,
+            vector: <[u64; 26]>::from(self.fed_vector()),
+        }
     }
+
+    // The digester vector. All columns that no stage names are zero.
+    fn fed_vector(self) -> Digester
+        ensures { digester_counts result ≡ fed_vector (asm1_counts self.drawn.vector) (stages self.drawn.figures (asm1_counts self.drawn.vector)) }
+    {
+        Digester {
+            si: self.drawn.vector.si,
+            ssu: self.acids.ssu,
+            saa: self.acids.saa,
+            sfa: Milligrams(0),
+            sva: Milligrams(0),
+            sbu: Milligrams(0),
+            spro: Milligrams(0),
+            sac: Milligrams(0),
+            sh2: Milligrams(0),
+            sch4: Milligrams(0),
+            xi: self.inerts.xi,
+            xc: self.remains.xc,
+            xch: self.remains.xch,
+            xpr: Milligrams(0),
+            xli: self.remains.xli,
+            xsu: Milligrams(0),
+            xaa: Milligrams(0),
+            xfa: Milligrams(0),
+            xc4: Milligrams(0),
+            xpro: Milligrams(0),
+            xac: Milligrams(0),
+            xh2: Milligrams(0),
+            sin: self.remains.sin,
+            sic: self.drawn.vector.salk,
+            co: self.left.co,
+            cn: self.left.cn,
+        }
+    }
+}
+
+// A, o, r and D of stage 1.
+#[derive(Clone, Copy)]
+pub struct Demand {
+    pub a: Milligrams,
+    pub o: Milligrams,
+    pub r: Ticks,
+    pub d: Milligrams,
+}
+
+// What stage 1 leaves.
+#[derive(Clone, Copy)]
+pub struct Left {
+    pub ss: Milligrams,
+    pub xs: Milligrams,
+    pub xbh: Milligrams,
+    pub xba: Milligrams,
+    pub co: Milligrams,
+    pub cn: Ticks,
+    pub warn: u64,
+}
+
+// What stage 2 gives.
+#[derive(Clone, Copy)]
+pub struct Acids {
+    pub saa: Milligrams,
+    pub ssu: Milligrams,
+}
+
+// What stage 4 gives: the digester's xi, and the pool and the ammonia left.
+#[derive(Clone, Copy)]
+pub struct Inerts {
+    pub xi: Milligrams,
+    pub pool: Ticks,
+    pub ammonia: Ticks,
+}
+
+// What stage 5 gives.
+#[derive(Clone, Copy)]
+pub struct Remains {
+    pub xc: Milligrams,
+    pub xch: Milligrams,
+    pub xli: Milligrams,
+    pub sin: Ticks,
 }
 
 // The nitrate rule: 286 mg of COD reduce 1,000,000 ticks of nitrate.
@@ -99,74 +315,11 @@ fn nitrate_cod(n: Ticks) -> Milligrams
     milligrams_for(n, NITRATE_COD, NITRATE_TICKS)
 }
 
-// A, o, r and D of stage 1.
-#[derive(Clone, Copy)]
-pub struct Demand {
-    pub a: Milligrams,
-    pub o: Milligrams,
-    pub r: Ticks,
-    pub d: Milligrams,
-}
-
-// Stage 1, what oxygen and nitrate burn. Each path has one division: covered nitrate is reduced whole (`CoveredLaw`), and
-// `nitrate_cod` divides; where COD is short all of it is burnt (`ShortLaw`), and `reducible` divides.
-fn demand_of(v: Asm1) -> Demand
-    requires { Low v }
-    ensures { Demands result (stage1 nitrate_rule (asm1_counts v)) }
-{
-    let a = v.ss.plus(v.xs).plus(v.xbh).plus(v.xba);
-    let o = v.so.min(a);
-    let x = a.less(o);
-    if is_covered(v.sno, x) {
-        return Demand {
-            a,
-            o,
-            r: v.sno,
-            d: o.plus(nitrate_cod(v.sno)),
-        };
-    }
-    let r = reducible(x);
-    short_demand(a, o, r)
-}
-
 // The same where COD is short for the nitrate: r of it is reduced, and all of the COD is burnt.
 fn short_demand(a: Milligrams, o: Milligrams, r: Ticks) -> Demand
     ensures { ((result.a ≡ a) × (result.o ≡ o)) × ((result.r ≡ r) × (result.d ≡ a)) }
 {
     Demand { a, o, r, d: a }
-}
-
-// What stage 1 leaves.
-#[derive(Clone, Copy)]
-pub struct Left {
-    pub ss: Milligrams,
-    pub xs: Milligrams,
-    pub xbh: Milligrams,
-    pub xba: Milligrams,
-    pub co: Milligrams,
-    pub cn: Ticks,
-    pub warn: u64,
-}
-
-// Stage 1, what is left: D is taken from ss, then xs, xbh, xba.
-fn left_of(v: Asm1, demand: Demand) -> Left
-    requires { (Low v) × (Demands demand (stage1 nitrate_rule (asm1_counts v))) }
-    ensures { Leaves result (stage1 nitrate_rule (asm1_counts v)) }
-{
-    let behind_ss = demand.d.less(v.ss);
-    let behind_xs = behind_ss.less(v.xs);
-    let behind_xbh = behind_xs.less(v.xbh);
-    let co = v.so.less(demand.o);
-    let cn = v.sno.less(demand.r);
-    Left {
-        ss: v.ss.less(demand.d),
-        xs: v.xs.less(behind_ss),
-        xbh: v.xbh.less(behind_xs),
-        xba: v.xba.less(behind_xbh),
-        co,
-        cn,
-        warn: warn_of(co, cn),
-    }
 }
 
 // 1 where oxygen or nitrate is carried through, else 0.
@@ -177,127 +330,4 @@ fn warn_of(co: Milligrams, cn: Ticks) -> u64
         return 0;
     }
     1
-}
-
-#[derive(Clone, Copy)]
-pub struct Acids {
-    pub saa: Milligrams,
-    pub ssu: Milligrams,
-}
-
-// Stage 2.
-fn acids_of(f: Figures, v: Asm1, left: Left) -> Acids
-    requires { (Permitted f) × ((Low v) × (Leaves left (stage1 nitrate_rule (asm1_counts v)))) }
-    ensures { AcidsHeld result (stages f (asm1_counts v)).s2 }
-{
-    let saa = afforded(left.ss, v.snd, f.naa);
-    Acids {
-        saa,
-        ssu: left.ss.less(saa),
-    }
-}
-
-// Stage 3, the pool of organic nitrogen. Biomass counts as it was before stage 1.
-fn pool_of(f: Figures, v: Asm1, acids: Acids) -> Ticks
-    requires { (Permitted f) × ((Low v) × (AcidsHeld acids (stages f (asm1_counts v)).s2)) }
-    ensures { (result.0 ≡ (stages f (asm1_counts v)).P) × (result.0 ≤ 60000000000000000) }
-{
-    let soluble = v.snd.less(nitrogen(f.naa, acids.saa));
-    let biomass = nitrogen(f.ixb, v.xbh.plus(v.xba));
-    let inert = nitrogen(f.ixe, v.xi.plus(v.xp));
-    soluble.plus(v.xnd).plus(biomass).plus(inert)
-}
-
-// What stage 4 gives: the digester's xi, and the pool and the ammonia left.
-#[derive(Clone, Copy)]
-pub struct Inerts {
-    pub xi: Milligrams,
-    pub pool: Ticks,
-    pub ammonia: Ticks,
-}
-
-// Stage 4. Refusal 4 where nitrogen is short.
-fn inerts_of(f: Figures, v: Asm1, pool: Ticks) -> Result<Inerts, Refusal>
-    requires { (Permitted f) × ((Low v) × ((pool.0 ≡ (stages f (asm1_counts v)).P) × (pool.0 ≤ 60000000000000000))) }
-    ensures { InertsGiven result (stages f (asm1_counts v)).s4 (v.xi.0 + v.xp.0) }
-{
-    let xi = share(v.xi.plus(v.xp), f.fxi, 10000);
-    let q = nitrogen(f.ni, v.si.plus(xi));
-    if pool.plus(v.snh) < q {
-        return Err(Refusal::FeedShort);
-    }
-    Ok(Inerts {
-        xi,
-        pool: pool.less(q),
-        ammonia: v.snh.less(q.less(pool)),
-    })
-}
-
-// What stage 5 gives.
-#[derive(Clone, Copy)]
-pub struct Remains {
-    pub xc: Milligrams,
-    pub xch: Milligrams,
-    pub xli: Milligrams,
-    pub sin: Ticks,
-}
-
-// Stage 5.
-fn remains_of(f: Figures, v: Asm1, left: Left, inerts: Inerts) -> Remains
-    requires { ((Permitted f) × (Low v)) × ((Leaves left (stage1 nitrate_rule (asm1_counts v))) × (InertsHeld inerts (stages f (asm1_counts v)).s4 (v.xi.0 + v.xp.0))) }
-    ensures { RemainsHeld result (stages f (asm1_counts v)).s5 }
-{
-    let particulate = left.xs.plus(left.xbh).plus(left.xba).plus(v.xi).plus(v.xp);
-    let all = particulate.less(inerts.xi);
-    let xc = afforded(all, inerts.pool, f.nxc);
-    let rest = all.less(xc);
-    let xch = share(rest, f.fch, f.fch + f.fli);
-    Remains {
-        xc,
-        xch,
-        xli: rest.less(xch),
-        sin: inerts.ammonia.plus(inerts.pool).less(nitrogen(f.nxc, xc)),
-    }
-}
-
-// The digester vector that the stages give. All columns that no stage names are zero.
-fn fed_vector(
-    f: Figures,
-    v: Asm1,
-    left: Left,
-    acids: Acids,
-    inerts: Inerts,
-    remains: Remains,
-) -> Digester
-    requires { StagesHeld left acids inerts remains (v.xi.0 + v.xp.0) (stages f (asm1_counts v)) }
-    ensures { digester_counts result ≡ fed_vector (asm1_counts v) (stages f (asm1_counts v)) }
-{
-    Digester {
-        si: v.si,
-        ssu: acids.ssu,
-        saa: acids.saa,
-        sfa: Milligrams(0),
-        sva: Milligrams(0),
-        sbu: Milligrams(0),
-        spro: Milligrams(0),
-        sac: Milligrams(0),
-        sh2: Milligrams(0),
-        sch4: Milligrams(0),
-        xi: inerts.xi,
-        xc: remains.xc,
-        xch: remains.xch,
-        xpr: Milligrams(0),
-        xli: remains.xli,
-        xsu: Milligrams(0),
-        xaa: Milligrams(0),
-        xfa: Milligrams(0),
-        xc4: Milligrams(0),
-        xpro: Milligrams(0),
-        xac: Milligrams(0),
-        xh2: Milligrams(0),
-        sin: remains.sin,
-        sic: v.salk,
-        co: left.co,
-        cn: left.cn,
-    }
 }

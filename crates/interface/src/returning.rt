@@ -23,30 +23,126 @@ pub fn return_of(f: Figures, c: [u64; 26]) -> Result<Returned, Refusal>
     requires { (Permitted f) × (Below digester_ceilings c) }
     ensures { result ≡ return_of f c }
 {
-    return_digester(f, Digester::from(c))
+    let digested = Digested {
+        figures: f,
+        vector: Digester::from(c),
+    };
+    digested.convert()
 }
 
-// The same of a vector by its names: 5 where xnd, snd and snh hold less than ixe × xi, else the conversion.
-fn return_digester(f: Figures, d: Digester) -> Result<Returned, Refusal>
-    requires { (Permitted f) × (LowDigester d) }
-    ensures { result ≡ return_digester f (digester_counts d) }
-{
-    let n = nitrogen_of(f, d);
-    let q = nitrogen(f.ixe, d.xi);
-    if n.xnd.plus(n.snd).plus(n.snh) < q {
-        return Err(Refusal::ReturnShort);
+// A digester vector by its names, and the figures of its conversion, so that the sums fit.
+#[derive(Clone, Copy)]
+struct Digested {
+    figures: Figures,
+    vector: Digester,
+    ghost permitted: { Permitted figures },
+    ghost low: { LowDigester vector },
+}
+
+// The conversion and its parts.
+impl Digested {
+    // 5 where xnd, snd and snh hold less than ixe × xi, else the conversion.
+    fn convert(self) -> Result<Returned, Refusal>
+        ensures { result ≡ return_digester self.figures (digester_counts self.vector) }
+    {
+        let n = self.nitrogen_held();
+        let q = nitrogen(self.figures.ixe, self.vector.xi);
+        if n.xnd.plus(n.snd).plus(n.snh) < q {
+            return Err(Refusal::ReturnShort);
+        }
+        Ok(self.told(n.without(q)))
     }
-    Ok(return_taken(f, d, n.without(q)))
-}
 
-// What an accepted conversion tells, with its vector. The nitrogen is what ixe × xi leaves.
-fn return_taken(f: Figures, d: Digester, left: Nitrogen) -> Returned
-    requires { (LowDigester d) × (nitrogen_counts left ≡ taken (f.ixe * d.xi.0) (nitrogen_of f (digester_counts d))) }
-    ensures { result ≡ return_taken f (digester_counts d) }
-{
-    Returned {
-        stripped: d.sh2.plus(d.sch4),
-        vector: <[u64; 13]>::from(returned_vector(d, left)),
+    // What an accepted conversion tells, with its vector. The nitrogen is what ixe × xi leaves.
+    fn told(self, left: Nitrogen) -> Returned
+        requires { nitrogen_counts left ≡ taken (self.figures.ixe * self.vector.xi.0) (nitrogen_of self.figures (digester_counts self.vector)) }
+        ensures { result ≡ return_taken self.figures (digester_counts self.vector) }
+    {
+        let d = self.vector;
+        Returned {
+            stripped: d.sh2.plus(d.sch4),
+            vector: <[u64; 13]>::from(self.returned_vector(left)),
+        }
+    }
+
+    // The nitrogen before ixe × xi is taken.
+    fn nitrogen_held(self) -> Nitrogen
+        ensures { (nitrogen_counts result ≡ nitrogen_of self.figures (digester_counts self.vector)) × (result.xnd.0 + result.snd.0 + result.snh.0 ≤ 130000000000000000) }
+    {
+        let f = self.figures;
+        let d = self.vector;
+        let composites = nitrogen(f.nxc, d.xc);
+        let protein = nitrogen(f.naa, d.xpr);
+        let biomass = nitrogen(f.nbac, self.degraders());
+        let inert = nitrogen(f.ni, d.xi);
+        let amino = nitrogen(f.naa, d.saa);
+        let soluble = nitrogen(f.ni, d.si);
+        Nitrogen {
+            xnd: composites.plus(protein).plus(biomass).plus(inert),
+            snd: amino.plus(soluble),
+            snh: d.sin,
+        }
+    }
+
+    // The seven degraders.
+    fn degraders(self) -> Milligrams
+        ensures { (result.0 ≡ degraders (digester_counts self.vector)) × (result.0 ≤ 7000000000000) }
+    {
+        let d = self.vector;
+        d.xsu
+            .plus(d.xaa)
+            .plus(d.xfa)
+            .plus(d.xc4)
+            .plus(d.xpro)
+            .plus(d.xac)
+            .plus(d.xh2)
+    }
+
+    // The seven soluble columns from ssu to sac.
+    fn soluble(self) -> Milligrams
+        ensures { result.0 ≡ soluble (digester_counts self.vector) }
+    {
+        let d = self.vector;
+        d.ssu
+            .plus(d.saa)
+            .plus(d.sfa)
+            .plus(d.sva)
+            .plus(d.sbu)
+            .plus(d.spro)
+            .plus(d.sac)
+    }
+
+    // The eleven particulate columns except xi.
+    fn particulate(self) -> Milligrams
+        ensures { result.0 ≡ particulate (digester_counts self.vector) }
+    {
+        let d = self.vector;
+        d.xc.plus(d.xch)
+            .plus(d.xpr)
+            .plus(d.xli)
+            .plus(self.degraders())
+    }
+
+    // The ASM1 vector, with its nitrogen.
+    fn returned_vector(self, n: Nitrogen) -> Asm1
+        ensures { asm1_counts result ≡ returned_vector (digester_counts self.vector) (nitrogen_counts n) }
+    {
+        let d = self.vector;
+        Asm1 {
+            si: d.si,
+            ss: self.soluble(),
+            xi: d.xi,
+            xs: self.particulate(),
+            xbh: Milligrams(0),
+            xba: Milligrams(0),
+            xp: Milligrams(0),
+            so: d.co,
+            sno: d.cn,
+            snh: n.snh,
+            snd: n.snd,
+            xnd: n.xnd,
+            salk: d.sic,
+        }
     }
 }
 
@@ -69,84 +165,5 @@ impl Nitrogen {
             snd: self.snd.less(behind_xnd),
             snh: self.snh.less(behind_xnd.less(self.snd)),
         }
-    }
-}
-
-// The nitrogen of a digester vector, before ixe × xi is taken.
-fn nitrogen_of(f: Figures, d: Digester) -> Nitrogen
-    requires { (Permitted f) × (LowDigester d) }
-    ensures { (nitrogen_counts result ≡ nitrogen_of f (digester_counts d)) × (result.xnd.0 + result.snd.0 + result.snh.0 ≤ 130000000000000000) }
-{
-    let composites = nitrogen(f.nxc, d.xc);
-    let protein = nitrogen(f.naa, d.xpr);
-    let biomass = nitrogen(f.nbac, degraders_of(d));
-    let inert = nitrogen(f.ni, d.xi);
-    let amino = nitrogen(f.naa, d.saa);
-    let soluble = nitrogen(f.ni, d.si);
-    Nitrogen {
-        xnd: composites.plus(protein).plus(biomass).plus(inert),
-        snd: amino.plus(soluble),
-        snh: d.sin,
-    }
-}
-
-// The seven degraders.
-fn degraders_of(d: Digester) -> Milligrams
-    requires { LowDigester d }
-    ensures { (result.0 ≡ degraders (digester_counts d)) × (result.0 ≤ 7000000000000) }
-{
-    d.xsu
-        .plus(d.xaa)
-        .plus(d.xfa)
-        .plus(d.xc4)
-        .plus(d.xpro)
-        .plus(d.xac)
-        .plus(d.xh2)
-}
-
-// The seven soluble columns from ssu to sac.
-fn soluble_of(d: Digester) -> Milligrams
-    requires { LowDigester d }
-    ensures { result.0 ≡ soluble (digester_counts d) }
-{
-    d.ssu
-        .plus(d.saa)
-        .plus(d.sfa)
-        .plus(d.sva)
-        .plus(d.sbu)
-        .plus(d.spro)
-        .plus(d.sac)
-}
-
-// The eleven particulate columns except xi.
-fn particulate_of(d: Digester) -> Milligrams
-    requires { LowDigester d }
-    ensures { result.0 ≡ particulate (digester_counts d) }
-{
-    d.xc.plus(d.xch)
-        .plus(d.xpr)
-        .plus(d.xli)
-        .plus(degraders_of(d))
-}
-
-// The ASM1 vector, with its nitrogen.
-fn returned_vector(d: Digester, n: Nitrogen) -> Asm1
-    requires { LowDigester d }
-    ensures { asm1_counts result ≡ returned_vector (digester_counts d) (nitrogen_counts n) }
-{
-    Asm1 {
-        si: d.si,
-        ss: soluble_of(d),
-        xi: d.xi,
-        xs: particulate_of(d),
-        xbh: Milligrams(0),
-        xba: Milligrams(0),
-        xp: Milligrams(0),
-        so: d.co,
-        sno: d.cn,
-        snh: n.snh,
-        snd: n.snd,
-        xnd: n.xnd,
-        salk: d.sic,
     }
 }

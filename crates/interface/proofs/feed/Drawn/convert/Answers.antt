@@ -1,11 +1,11 @@
--- `interface::feed::feed_asm1` meets its contract. Assumes nothing.
+-- `interface::feed::Drawn::convert` meets its contract. Assumes nothing.
 use mathlib.Core.Path.{◌≡◌, sym, ap, ◌∙◌}
 use lib.Dec.{ltb}
 use borrow.Author.Rules.{rules}
 use Rattle.std.specs.Prelude.{Ok}
 use Rattle.interface.proofs.Laws.Feed.{same_test, feed-short, feed-over, feed-taken}
 use Rattle.interface.proofs.Laws.Whole.{err-is}
-use Rattle.interface.proofs.feed.feed_asm1.Goals as goal
+use Rattle.interface.proofs.feed.Drawn.convert.Goals as goal
 
 pub returns-in_err-inerts : goal.returns-in_err-inerts
 returns-in_err-inerts c =
@@ -14,15 +14,15 @@ returns-in_err-inerts c =
 
 pub returns-then-lt : goal.returns-then-lt
 returns-then-lt c =
-    let d = c.demand_of-demand.result in
-    let demand = c.demand_of-demand.ensures in
+    let d = c.demand-demand.result in
+    let demand = c.demand-demand.ensures in
     let under : c.lt.result ≡ ltb d.a.0 d.d.0 = search rules in
     feed-over _ _ c.in_ok-inerts.ensures.0 (sym (under ∙ same_test demand.A demand.D) ∙ c.if-lt.true)
 
 pub returns : goal.returns
 returns c =
-    let d = c.demand_of-demand.result in
-    let demand = c.demand_of-demand.ensures in
+    let d = c.demand-demand.result in
+    let demand = c.demand-demand.ensures in
     let under : c.lt.result ≡ ltb d.a.0 d.d.0 = search rules in
-    ap Ok c.feed_taken.ensures
+    ap Ok c.told.ensures
     ∙ feed-taken _ _ c.in_ok-inerts.ensures.0 (sym (under ∙ same_test demand.A demand.D) ∙ c.if-lt.false)

@@ -1,16 +1,15 @@
--- `interface::feed::left_of` meets its contract. Assumes nothing.
+-- `interface::feed::Drawn::left` meets its contract. Assumes nothing.
 use mathlib.Core.Path.{refl}
 use Rattle.vectors.proofs.Laws.Units.{minus}
 use Rattle.interface.proofs.Laws.Feed.{warn-is}
 use native.Mathlib.Omega.{arith}
 use Rattle.interface.specs.Feed.{stage1}
-use Rattle.interface.proofs.feed.left_of.Goals as goal
+use Rattle.interface.proofs.feed.Drawn.left.Goals as goal
 
 pub returns : goal.returns
 unfolding stage1
 returns c =
-    let low = c.requires.0 in
-    let held = c.requires.1 in
+    let held = c.requires in
     let behind-ss = minus c.less-behind_ss.ensures.0 held.D refl in
     let behind-xs = minus c.less-behind_xs.ensures.0 behind-ss refl in
     let co = minus c.less-co.ensures.0 refl held.o in

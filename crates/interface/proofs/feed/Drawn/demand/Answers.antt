@@ -1,4 +1,4 @@
--- `interface::feed::demand_of` meets its contract. Assumes nothing.
+-- `interface::feed::Drawn::demand` meets its contract. Assumes nothing.
 use Rattle.columns.specs.Counts.{asm1_counts}
 use Rattle.interface.specs.Feed.{nitrate_rule}
 use Rattle.interface.proofs.Laws.Feed.{stage1-is, stage1-covered-is, stage1-short-is}
@@ -6,12 +6,12 @@ use mathlib.Core.Path.{◌≡◌}
 use Prim.Native.Nat.{min}
 use native.Mathlib.Omega.{arith}
 use borrow.Author.Rules.{rules}
-use Rattle.interface.proofs.feed.demand_of.Goals as goal
+use Rattle.interface.proofs.feed.Drawn.demand.Goals as goal
 
 pub returns-then-is_covered : goal.returns-then-is_covered
 returns-then-is_covered c =
-    let v = asm1_counts c.args.v in
-    let o : c.min-o.result.0 ≡ min c.args.v.so.0 c.plus-a.result.0 = search rules in
+    let v = asm1_counts c.args.self.vector in
+    let o : c.min-o.result.0 ≡ min c.args.self.vector.so.0 c.plus-a.result.0 = search rules in
     let p =
     stage1-is nitrate_rule v c.plus.ensures.0 c.plus-2.ensures.0 c.plus-a.ensures.0
     o c.less-x.ensures.0 in
@@ -22,8 +22,8 @@ returns-then-is_covered c =
 
 pub returns : goal.returns
 returns c =
-    let v = asm1_counts c.args.v in
-    let o : c.min-o.result.0 ≡ min c.args.v.so.0 c.plus-a.result.0 = search rules in
+    let v = asm1_counts c.args.self.vector in
+    let o : c.min-o.result.0 ≡ min c.args.self.vector.so.0 c.plus-a.result.0 = search rules in
     let p =
     stage1-is nitrate_rule v c.plus.ensures.0 c.plus-2.ensures.0 c.plus-a.ensures.0
     o c.less-x.ensures.0 in
