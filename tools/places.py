@@ -4,7 +4,8 @@
     tools/places.py [COMMIT] [--list]
 
 Each point is a list of patterns over the source lines (comments and `ghost use` lines left away), but for point 5, which reads the
-clauses, and point 8, which counts proof files. --list prints each place as FILE:LINE:TEXT.
+clauses, and point 8, which counts proof files. Behind them stand the lines with certain words, and all lines. --list prints each place as
+FILE:LINE:TEXT.
 """
 import re
 import subprocess
@@ -77,3 +78,28 @@ proofs = [f for f in git("ls-tree", "-r", "--name-only", commit, "--", "crates")
 lines = sum(git("show", f"{commit}:{f}").count("\n") for f in proofs)
 answers = [f for f in proofs if f.endswith("/Answers.antt")]
 print(f"{len(answers):4}  8 files of answers, of {len(proofs)} proof files with {lines} lines")
+
+# the same source, by words
+WORDS = [
+    ("while", r"\bwhile\b"),
+    ("for .. in", r"^\s*for .* in "),
+    (".iter(), .map(, .zip(, .fold(", r"\.iter\(\)|\.map\(|\.zip\(|\.fold\("),
+    ("Option<, Result<", r"\b(Option|Result)<"),
+    ("? behind a call", r"\)\?"),
+    ("refusal: u64, Refused(u64)", r"\brefusal: u64|Refused\(u64\)"),
+    ("-> bool", r"-> bool"),
+    ("const N: usize", r"\bconst N: usize"),
+    ("PartialEq derived", r"derive\(.*\bPartialEq"),
+    ("From implemented", r"^impl From<"),
+    ("struct update", r"^\s*\.\.\w|, \.\.\w[^]]*\}"),
+    ("a field copied to a name", r"^\s*let (mut )?\w+ = \w+\.\w+;$"),
+]
+for name, pattern in WORDS:
+    found = 0
+    for f in files:
+        for line in text[f]:
+            if not line.lstrip().startswith(("//", "ghost use")) and re.search(pattern, line):
+                found += 1
+    print(f"{found:4}  {name}")
+whole = sum(git("show", f"{commit}:{f}").count("\n") for f in files)
+print(f"{whole:4}  all lines")

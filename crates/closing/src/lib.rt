@@ -5,12 +5,11 @@
 ghost use Rattle.std.specs.Prelude.{◌≡◌};
 ghost use Rattle.vectors.specs.Columns.{Below, digester_ceilings};
 ghost use Rattle.vectors.specs.Figures.{house};
-ghost use Rattle.refusals.specs.Tests.{first};
-ghost use Rattle.closing.specs.Closing.{replaced, other_tkn, gap_between, gap_of, close_tests, close_taken, close_of};
+ghost use Rattle.closing.specs.Closing.{replaced, other_tkn, gap_between, gap_of, close_taken, close_of};
 
 use columns::Digester;
 use plant::Plant;
-use refusals::Refusal;
+use refusals::{Refusal, unless};
 use vectors::{Milligrams, Ticks, Unit};
 
 // The gas and the vector that close.
@@ -33,76 +32,70 @@ pub fn close(plant: Plant, d: [u64; 26]) -> Result<Closed, Refusal>
     ensures { result ≡ close_of house plant d }
 {
     let gaps = gap(plant, d)?;
-    match refusal_by(gaps) {
-        Some(refusal) => Err(refusal),
-        None => Ok(closing_of(plant.digester, d)),
-    }
+    unless(gaps.sin == Ticks(0), Refusal::ColumnAbove)?;
+    unless(gaps.cod == Milligrams(0), Refusal::CodOpen)?;
+    unless(gaps.tkn == Ticks(0), Refusal::TknOpen)?;
+    // by a variable: the borrow checker does not cover a field that is an array, made part of a literal
+    let old = plant.digester;
+    let proposal = Proposal { old, new: d };
+    Ok(proposal.closing())
 }
 
 // Refusals 1 and 3.
 pub fn gap(plant: Plant, d: [u64; 26]) -> Result<Gaps, Refusal>
     ensures { result ≡ gap_of house plant d }
 {
-    if !plant::record_within(plant) {
-        return Err(Refusal::RecordAbove);
-    }
-    if !vectors::is_within(d) {
-        return Err(Refusal::ColumnAbove);
-    }
-    Ok(gap_between(plant.digester, d))
+    unless(plant::record_within(plant), Refusal::RecordAbove)?;
+    unless(vectors::is_within(d), Refusal::ColumnAbove)?;
+    // by a variable, as in close
+    let old = plant.digester;
+    let proposal = Proposal { old, new: d };
+    Ok(proposal.gaps())
 }
 
-// The gaps of the proposal d in the place of old.
-fn gap_between(old: [u64; 26], d: [u64; 26]) -> Gaps
-    requires { (Below digester_ceilings old) × (Below digester_ceilings d) }
-    ensures { result ≡ gap_between house old d }
-{
-    let cod = vectors::cod(old);
-    let proposed = vectors::cod(d);
-    let tkn = vectors::tkn(vectors::HOUSE, old);
-    let others = other_tkn(d);
-    Gaps {
-        cod: proposed.less(cod),
-        tkn: others.less(tkn),
-        sin: tkn.less(others).less(Ticks(vectors::TICK_CEILING)),
-    }
+// A digester vector proposed in the place of the record's, both within their ceilings, so that their totals fit.
+#[derive(Clone, Copy)]
+struct Proposal {
+    old: [u64; 26],
+    new: [u64; 26],
+    ghost old_low: { Below digester_ceilings old },
+    ghost new_low: { Below digester_ceilings new },
 }
 
-// The TKN of all columns but sin.
-fn other_tkn(d: [u64; 26]) -> Ticks
-    requires { Below digester_ceilings d }
-    ensures { result.0 ≡ other_tkn house d }
-{
-    let tkn = vectors::tkn(vectors::HOUSE, d);
-    tkn.less(Ticks(d[22]))
-}
+impl Proposal {
+    // How far off it is.
+    fn gaps(self) -> Gaps
+        ensures { result ≡ gap_between house self.old self.new }
+    {
+        let cod = vectors::cod(self.old);
+        let proposed = vectors::cod(self.new);
+        let tkn = vectors::tkn(vectors::HOUSE, self.old);
+        let others = self.other_tkn();
+        Gaps {
+            cod: proposed.less(cod),
+            tkn: others.less(tkn),
+            sin: tkn.less(others).less(Ticks(vectors::TICK_CEILING)),
+        }
+    }
 
-// The refusal of a proposal with these gaps.
-fn refusal_by(g: Gaps) -> Option<Refusal>
-    ensures { result ≡ first (close_tests g) }
-{
-    if g.sin != Ticks(0) {
-        return Some(Refusal::ColumnAbove);
+    // The TKN of all columns but sin.
+    fn other_tkn(self) -> Ticks
+        ensures { result.0 ≡ other_tkn house self.new }
+    {
+        let tkn = vectors::tkn(vectors::HOUSE, self.new);
+        tkn.less(Ticks(self.new[22]))
     }
-    if g.cod != Milligrams(0) {
-        return Some(Refusal::CodOpen);
-    }
-    if g.tkn != Ticks(0) {
-        return Some(Refusal::TknOpen);
-    }
-    None
-}
 
-// What closes the proposal d in the place of old.
-fn closing_of(old: [u64; 26], d: [u64; 26]) -> Closed
-    requires { (Below digester_ceilings old) × (Below digester_ceilings d) }
-    ensures { result ≡ close_taken house old d }
-{
-    let gas = vectors::cod(old).less(vectors::cod(d));
-    let tkn = vectors::tkn(vectors::HOUSE, old);
-    let sin = tkn.less(other_tkn(d));
-    let vector = with_closing(d, sin, Milligrams(old[24]), Ticks(old[25]));
-    Closed { gas, vector }
+    // What closes it.
+    fn closing(self) -> Closed
+        ensures { result ≡ close_taken house self.old self.new }
+    {
+        let gas = vectors::cod(self.old).less(vectors::cod(self.new));
+        let tkn = vectors::tkn(vectors::HOUSE, self.old);
+        let sin = tkn.less(self.other_tkn());
+        let vector = with_closing(self.new, sin, Milligrams(self.old[24]), Ticks(self.old[25]));
+        Closed { gas, vector }
+    }
 }
 
 // A digester vector with other sin, co and cn.

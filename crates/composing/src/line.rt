@@ -8,20 +8,20 @@ ghost use Rattle.composing.specs.Line.{call_text, entry_text};
 ghost use Rattle.composing.specs.Written.{written_text, LineWritten};
 
 use plant::{Call, Request};
-use reading::{ASM1_NAMES, DIGESTER_NAMES};
+use reading::{ASM1_NAMES, Asked, DIGESTER_NAMES};
 use refusals::Refusal;
 use writing::{Page, filled_part};
 
 // Writes the line of a call with the vector that it takes, or of a preview of it, and a newline, and tells how many bytes there are; under
-// a refusal the buffer is left as it is.
-pub fn write_line(buf: &mut [u8], r: Request, preview: bool) -> Result<usize, Refusal>
-    ensures { LineWritten buf.old preview r result buf.new }
+// a refusal the buffer is left as it is. Test, page, writer stand here as in writing's `write_answer`, for the reason given there.
+pub fn write_line(buf: &mut [u8], asked: Asked) -> Result<usize, Refusal>
+    ensures { LineWritten buf.old asked.preview asked.request result buf.new }
 {
     if buf.len() < 1025 {
         return Err(Refusal::ShortBuffer);
     }
     let mut page = Page { bytes: buf, at: 0 };
-    put_entry(&mut page, r, preview);
+    put_entry(&mut page, asked);
     page.put(b"\n");
     Ok(page.at)
 }
@@ -29,25 +29,25 @@ pub fn write_line(buf: &mut [u8], r: Request, preview: bool) -> Result<usize, Re
 // The same, and hands back the part of the buffer that the line and its newline fill, shared. The buffer goes into the result, so that
 // this contract says nothing of the bytes behind the part; `write_line`, which it calls, settles them. It and
 // `filled_answer` of writing share `filled_part`, and no more.
-pub fn filled_line<'a>(buf: &'a mut [u8], r: Request, preview: bool) -> &'a [u8]
-    ensures { (result.now ≡ written_text (length buf.old) preview r) × (result.ref_ptr ≡ buf.entry.ref_ptr) }
+pub fn filled_line<'a>(buf: &'a mut [u8], asked: Asked) -> &'a [u8]
+    ensures { (result.now ≡ written_text (length buf.old) asked.preview asked.request) × (result.ref_ptr ≡ buf.entry.ref_ptr) }
 {
-    let n = write_line(buf, r, preview).unwrap_or(0);
+    let n = write_line(buf, asked).unwrap_or(0);
     filled_part(buf, n)
 }
 
 // A call, or a preview of it.
-fn put_entry(page: &mut Page, r: Request, preview: bool)
+fn put_entry(page: &mut Page, asked: Asked)
     requires { HasRoom page.old 1024 }
-    ensures { (Wrote page.old (entry_text preview r) page.new) × (page.new.at ≤ page.old.at + 1024) }
+    ensures { (Wrote page.old (entry_text asked.preview asked.request) page.new) × (page.new.at ≤ page.old.at + 1024) }
 {
-    if preview {
+    if asked.preview {
         page.put(b"(preview ");
-        put_call(page, r);
+        put_call(page, asked.request);
         page.put(b")");
         return;
     }
-    put_call(page, r);
+    put_call(page, asked.request);
 }
 
 // A call in its brackets.
@@ -55,18 +55,15 @@ fn put_call(page: &mut Page, r: Request)
     requires { HasRoom page.old 1000 }
     ensures { (Wrote page.old (call_text r.call r.sludge r.digester) page.new) × (page.new.at ≤ page.old.at + 1000) }
 {
-    let call = r.call;
-    let sludge = r.sludge;
-    let digester = r.digester;
-    match call {
+    match r.call {
         Call::Receive => {
             page.put(b"(receive");
-            put_fields(page, &ASM1_NAMES, &sludge);
+            put_fields(page, &ASM1_NAMES, &r.sludge);
         }
         Call::Feed(k) => page.told(&[(b"(feed ", k)]),
         Call::Settle(g) => {
             page.labelled(b"(settle ", g.0);
-            put_fields(page, &DIGESTER_NAMES, &digester);
+            put_fields(page, &DIGESTER_NAMES, &r.digester);
         }
         Call::Return(k) => page.told(&[(b"(return ", k)]),
         Call::Release(k) => page.told(&[(b"(release ", k)]),

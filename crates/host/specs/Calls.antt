@@ -6,7 +6,7 @@
 --   Called                           a call of the record by numbers: the columns behind it and the refusal's number
 --   CalledOut                        the same, with what the call tells or hands out
 --   four_of, stripped_of             what a feed tells, and a return
---   number_in                        the number of a refusal, or 0
+--   number_in, told_in               the number of a refusal, or 0; the numbers that are told, or zeros
 --   SheetCalled                      a laboratory sheet, with the four numbers that it tells (unseen_of)
 --   TotalsCalled                     what is in the tanks, by numbers
 --   AsmToAdmCalled, AdmToAsmCalled   the conversions of a vector by itself
@@ -78,6 +78,11 @@ vector_of o = o.vector
 
 abbrev pub number_in : {A : Type 0} → Result A Refusal → ℕ
 number_in o = number_of (result_err o)
+
+-- the n numbers, or n zeros
+abbrev pub told_in : ℕ → Result (List ℕ) Refusal → List ℕ
+told_in n (Ok ts) = ts
+told_in n (Err r) = replicate n 0
 
 -- ---- a laboratory sheet s
 

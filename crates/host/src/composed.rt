@@ -4,8 +4,9 @@ ghost use Rattle.vectors.specs.Units.{milligrams};
 ghost use Rattle.plant.specs.Calls.{receiving, feeding, settling, returning, releasing, recycling};
 ghost use Rattle.host.specs.Calls.{Composed};
 
-use crate::request::{bare, receiving, settling};
+use crate::request::{receiving, settling};
 use plant::{Call, Request};
+use reading::Asked;
 
 // A receive.
 #[unsafe(no_mangle)]
@@ -20,7 +21,7 @@ pub extern "C" fn jilghvani_write_receive(v: &[u64; 13], preview: u64, buf: &mut
 pub extern "C" fn jilghvani_write_feed(k: u64, preview: u64, buf: &mut [u8]) -> usize
     ensures { Composed (feeding k) preview buf.old result buf.new }
 {
-    written(bare(Call::Feed(k)), preview, buf)
+    written(Request::from(Call::Feed(k)), preview, buf)
 }
 
 // A settle.
@@ -41,7 +42,7 @@ pub extern "C" fn jilghvani_write_settle(
 pub extern "C" fn jilghvani_write_return(k: u64, preview: u64, buf: &mut [u8]) -> usize
     ensures { Composed (returning k) preview buf.old result buf.new }
 {
-    written(bare(Call::Return(k)), preview, buf)
+    written(Request::from(Call::Return(k)), preview, buf)
 }
 
 // A release.
@@ -49,7 +50,7 @@ pub extern "C" fn jilghvani_write_return(k: u64, preview: u64, buf: &mut [u8]) -
 pub extern "C" fn jilghvani_write_release(k: u64, preview: u64, buf: &mut [u8]) -> usize
     ensures { Composed (releasing k) preview buf.old result buf.new }
 {
-    written(bare(Call::Release(k)), preview, buf)
+    written(Request::from(Call::Release(k)), preview, buf)
 }
 
 // A recycle.
@@ -57,13 +58,16 @@ pub extern "C" fn jilghvani_write_release(k: u64, preview: u64, buf: &mut [u8]) 
 pub extern "C" fn jilghvani_write_recycle(k: u64, preview: u64, buf: &mut [u8]) -> usize
     ensures { Composed (recycling k) preview buf.old result buf.new }
 {
-    written(bare(Call::Recycle(k)), preview, buf)
+    written(Request::from(Call::Recycle(k)), preview, buf)
 }
 
 // The line of a request; the preview is a number because C asks for it so.
 fn written(request: Request, preview: u64, buf: &mut [u8]) -> usize
     ensures { Composed request preview buf.old result buf.new }
 {
-    let w = composing::write_line(buf, request, preview != 0);
-    w.unwrap_or(0)
+    let asked = Asked {
+        request,
+        preview: preview != 0,
+    };
+    composing::write_line(buf, asked).unwrap_or(0)
 }

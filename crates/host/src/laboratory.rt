@@ -1,10 +1,11 @@
-// A laboratory sheet by kinds and values.
-ghost use Rattle.std.specs.Prelude.{◌≡◌};
+// A laboratory sheet by kinds and values: two arrays, as C lends them.
+ghost use Rattle.std.specs.Prelude.{◌≡◌, Ok};
 ghost use Rattle.vectors.specs.Figures.{house};
-ghost use Rattle.host.specs.Calls.{SheetCalled};
+ghost use Rattle.host.specs.Calls.{unseen_of, SheetCalled};
 ghost use Rattle.host.specs.Sheet.{finding_of, sheet_at};
 
 use crate::record::{plant_at, put_plant};
+use crate::told::tell;
 use sheets::Finding;
 
 // The sheet's call: the unseen milligrams, ticks and millimoles and the number not sampled are told.
@@ -20,21 +21,12 @@ pub extern "C" fn jilghvani_sheet(
 {
     let o = sheets::receive_sheet(plant_at(columns), sheet_at(kinds, values));
     put_plant(columns, o.plant);
-    match o.told {
-        Ok(unseen) => {
-            *told = [
-                unseen.milligrams.0,
-                unseen.ticks.0,
-                unseen.millimoles.0,
-                unseen.unsampled,
-            ];
-            0
-        }
-        Err(refusal) => {
-            *told = [0; 4];
-            refusal.number()
-        }
-    }
+    let unseen = o.told.map(
+        |u|
+            ensures { result ≡ unseen_of (Ok u) }
+        { [u.milligrams.0, u.ticks.0, u.millimoles.0, u.unsampled] },
+    );
+    tell(told, unseen)
 }
 
 // The entries that kinds and values stand for. A for over the places: from_fn does not say that its closure keeps what it captured.

@@ -1,5 +1,5 @@
 // The link for a host in C: functions on numbers and byte slices, whose record is 52 columns lent as a fixed array. ../../host/jilghvani.h
-// declares them for C. Nothing is kept between calls.
+// declares them for C. Nothing is kept between calls. Refusals go out as numbers and filled parts as counts: C has no Result and no slice.
 //
 //   text         the call on a line, and the held line
 //   composed     calls by numbers as lines
@@ -9,6 +9,7 @@
 //   proposals    a proposal for settle: what closes it, and how far off it is
 //   record       52 columns and the plant record that they stand for
 //   request      the requests of the calls by numbers
+//   told         the numbers that a call tells, or its refusal
 #![tactic(auto)]
 
 mod composed;
@@ -19,6 +20,7 @@ mod proposals;
 mod record;
 mod request;
 mod text;
+mod told;
 
 pub use composed::{
     jilghvani_write_feed, jilghvani_write_receive, jilghvani_write_recycle,

@@ -1,16 +1,19 @@
-// The record's calls by numbers: each gives the refusal's number, 0 where there is none.
-ghost use Rattle.std.specs.Prelude.{◌≡◌};
+// The record's calls by numbers: each gives the refusal's number, 0 where there is none. The export of each call cites Called or CalledOut
+// with its own request: its arguments are C's, columns and numbers, and carry no invariant. Each calls plant by itself: one
+// function of a request over `answer_request` was proved, and measured as slower (docs/DECISIONS.md, Speed).
+ghost use Rattle.std.specs.Prelude.{◌≡◌, Ok};
 ghost use Rattle.vectors.specs.Figures.{house};
 ghost use Rattle.vectors.specs.Units.{milligrams};
 ghost use Rattle.plant.specs.Answer.{told};
 ghost use Rattle.plant.specs.Record.{fresh_plant};
 ghost use Rattle.plant.specs.Calls.{receiving, feeding, settling, returning, releasing, recycling, step};
 ghost use Rattle.host.specs.Record.{plant_at, columns_at};
-ghost use Rattle.host.specs.Calls.{Called, CalledOut, four_of, stripped_of, vector_of, TotalsCalled};
+ghost use Rattle.host.specs.Calls.{Called, CalledOut, four_of, stripped_of, vector_of, totals_of, TotalsCalled};
 
 use crate::record::{plant_at, put_plant};
-use crate::request::{bare, receiving, settling};
-use plant::{Call, Outcome, Request};
+use crate::told::tell;
+use plant::Outcome;
+use vectors::Milligrams;
 
 // A fresh record.
 #[unsafe(no_mangle)]
@@ -25,7 +28,8 @@ pub extern "C" fn jilghvani_fresh(columns: &mut [u64; 52])
 pub extern "C" fn jilghvani_receive(columns: &mut [u64; 52], v: &[u64; 13]) -> u64
     ensures { Called house columns.old (receiving v.now) result columns.new }
 {
-    let o = call(columns, receiving(v));
+    let o = plant::receive(plant_at(columns), *v);
+    put_plant(columns, o.plant);
     plant::refusal_of(o.answer)
 }
 
@@ -34,7 +38,8 @@ pub extern "C" fn jilghvani_receive(columns: &mut [u64; 52], v: &[u64; 13]) -> u
 pub extern "C" fn jilghvani_feed(columns: &mut [u64; 52], k: u64, told: &mut [u64; 4]) -> u64
     ensures { CalledOut house columns.old (feeding k) four_of result columns.new told.new }
 {
-    let o = call(columns, bare(Call::Feed(k)));
+    let o = plant::feed(plant_at(columns), k);
+    put_plant(columns, o.plant);
     let t = plant::told_of(o.answer);
     *told = [t.burnt, t.oxygen, t.nitrate, t.warn];
     t.number
@@ -45,7 +50,8 @@ pub extern "C" fn jilghvani_feed(columns: &mut [u64; 52], k: u64, told: &mut [u6
 pub extern "C" fn jilghvani_settle(columns: &mut [u64; 52], gas: u64, d: &[u64; 26]) -> u64
     ensures { Called house columns.old (settling (milligrams gas) d.now) result columns.new }
 {
-    let o = call(columns, settling(gas, d));
+    let o = plant::settle(plant_at(columns), Milligrams(gas), *d);
+    put_plant(columns, o.plant);
     plant::refusal_of(o.answer)
 }
 
@@ -54,7 +60,8 @@ pub extern "C" fn jilghvani_settle(columns: &mut [u64; 52], gas: u64, d: &[u64; 
 pub extern "C" fn jilghvani_return(columns: &mut [u64; 52], k: u64, told: &mut [u64; 1]) -> u64
     ensures { CalledOut house columns.old (returning k) stripped_of result columns.new told.new }
 {
-    let o = call(columns, bare(Call::Return(k)));
+    let o = plant::give_back(plant_at(columns), k);
+    put_plant(columns, o.plant);
     let t = plant::told_of(o.answer);
     *told = [t.stripped];
     t.number
@@ -65,11 +72,14 @@ pub extern "C" fn jilghvani_return(columns: &mut [u64; 52], k: u64, told: &mut [
 pub extern "C" fn jilghvani_release(columns: &mut [u64; 52], k: u64, v: &mut [u64; 13]) -> u64
     ensures { CalledOut house columns.old (releasing k) vector_of result columns.new v.new }
 {
-    let o = call(columns, bare(Call::Release(k)));
-    // by a variable: the borrow checker does not cover a field that is an array, stored straight
-    let vector = o.vector;
+    let Outcome {
+        answer,
+        vector,
+        plant,
+    } = plant::release(plant_at(columns), k);
+    put_plant(columns, plant);
     *v = vector;
-    plant::refusal_of(o.answer)
+    plant::refusal_of(answer)
 }
 
 // Recycle.
@@ -77,7 +87,8 @@ pub extern "C" fn jilghvani_release(columns: &mut [u64; 52], k: u64, v: &mut [u6
 pub extern "C" fn jilghvani_recycle(columns: &mut [u64; 52], k: u64) -> u64
     ensures { Called house columns.old (recycling k) result columns.new }
 {
-    let o = call(columns, bare(Call::Recycle(k)));
+    let o = plant::recycle(plant_at(columns), k);
+    put_plant(columns, o.plant);
     plant::refusal_of(o.answer)
 }
 
@@ -86,24 +97,10 @@ pub extern "C" fn jilghvani_recycle(columns: &mut [u64; 52], k: u64) -> u64
 pub extern "C" fn jilghvani_totals(columns: &[u64; 52], told: &mut [u64; 4]) -> u64
     ensures { TotalsCalled house columns.now result told.new }
 {
-    match holding::held(plant_at(columns)) {
-        Ok(h) => {
-            *told = [h.cod.0, h.tkn.0, h.oxygen.0, h.nitrate.0];
-            0
-        }
-        Err(refusal) => {
-            *told = [0; 4];
-            refusal.number()
-        }
-    }
-}
-
-// A call on the record that the columns stand for; the record behind it takes their place.
-fn call(columns: &mut [u64; 52], request: Request) -> Outcome
-    ensures outcome { result ≡ step house (plant_at columns.old) request }
-    ensures columns { columns.new ≡ columns_at result.plant }
-{
-    let o = requests::answer_request(plant_at(columns), request);
-    put_plant(columns, o.plant);
-    o
+    let totals = holding::held(plant_at(columns)).map(
+        |h|
+            ensures { result ≡ totals_of (Ok h) }
+        { [h.cod.0, h.tkn.0, h.oxygen.0, h.nitrate.0] },
+    );
+    tell(told, totals)
 }

@@ -4,7 +4,8 @@ ghost use Rattle.host.specs.Record.{plant_at, columns_at};
 
 use plant::Plant;
 
-// The plant record that 52 columns stand for: a function, because Plant is another crate's type and takes no From here.
+// The plant record that 52 columns stand for: a function, because Plant is another crate's type, takes no From here, and its crate knows
+// nothing of 52 columns.
 pub fn plant_at(columns: &[u64; 52]) -> Plant
     ensures { result ≡ plant_at columns.now }
 {
@@ -21,7 +22,7 @@ pub fn plant_at(columns: &[u64; 52]) -> Plant
     }
 }
 
-// A plant record's columns take the place of those that are there.
+// A plant record's columns take the place of those that are there. By two splits: with three ranges, as above, `returns` stays open.
 pub fn put_plant(columns: &mut [u64; 52], p: Plant)
     ensures { columns.new ≡ columns_at p }
 {

@@ -1,10 +1,11 @@
-// The calls on text.
+// The calls on text. Each is one call of lines; they share `plant_at`, and differ in the call, what goes out and the outcome's type.
 ghost use Rattle.vectors.specs.Figures.{house};
 ghost use Rattle.host.specs.Calls.{LineCalled, HeldCalled};
 
 use crate::record::{plant_at, put_plant};
 
-// The call on a line without its newline: how many bytes the answer has, none under refusal 12.
+// The call on a line without its newline: how many bytes the answer has, none under refusal 12. A buffer and a count: C lends the one, and
+// the filled part cannot go back to it as a slice.
 #[unsafe(no_mangle)]
 pub extern "C" fn jilghvani_line(columns: &mut [u64; 52], line: &[u8], buf: &mut [u8]) -> usize
     ensures { LineCalled house columns.old line.now buf.old result columns.new buf.new }

@@ -1,4 +1,5 @@
--- What the structs between the stages hold in the code: the numbers of the stages, each in its unit. The contracts of the stage functions cite these.
+-- What the structs between the stages hold in the code: the numbers of the stages, each in its unit. The contracts of the stage functions
+-- and the ghost fields of Drawn, Staged and Digested cite these.
 --
 --   Low, LowDigester                                      every column of the vector is at most its ceiling
 --   Demands, Leaves, AcidsHeld, InertsHeld, RemainsHeld   the struct has the numbers of its stage

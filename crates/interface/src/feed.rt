@@ -8,12 +8,10 @@ ghost use Rattle.interface.specs.Structs.{Low, Demands, Leaves, AcidsHeld, Inert
 
 use columns::{Asm1, Digester};
 use refusals::Refusal;
-use vectors::{
-    Figures, Milligrams, Ticks, Unit, afforded, covers, milligrams_for, nitrogen, share, ticks_for,
-};
+use vectors::{Figures, Milligrams, Rate, Ticks, Unit, afforded, nitrogen, share};
 
-// What an accepted feed conversion gives: its vector and the numbers told. warn is 0 or 1, and a number, since an answer is told in
-// numbers and the writer of a line takes any.
+// What an accepted feed conversion gives: its vector and the numbers told. warn is a number, as stage 1 of document 01 makes it and as it
+// is told.
 #[derive(Clone, Copy)]
 pub struct Fed {
     pub burnt: Milligrams,
@@ -23,7 +21,8 @@ pub struct Fed {
     pub vector: [u64; 26],
 }
 
-// The feed conversion. Refusals 4 and 6.
+// The feed conversion. Refusals 4 and 6. It asks for a permitted set and a vector within its ceilings, which their types do not say (figures.rt
+// and vector.rt of vectors).
 pub fn feed_of(f: Figures, c: [u64; 13]) -> Result<Fed, Refusal>
     requires { (Permitted f) × (Below asm1_ceilings c) }
     ensures { result ≡ feed_of f c }
@@ -44,7 +43,7 @@ struct Drawn {
     ghost low: { Low vector },
 }
 
-// The conversion, and its stages in their order.
+// The conversion, and its stages in their order. A method that reads many columns names the vector and the figures once.
 impl Drawn {
     // 4 where q > P + snh, else 6 where D > A, else the five stages.
     fn convert(self) -> Result<Fed, Refusal>
@@ -287,16 +286,18 @@ pub struct Remains {
 }
 
 // The nitrate rule: 286 mg of COD reduce 1,000,000 ticks of nitrate.
-const NITRATE_COD: u64 = 286;
+const NITRATE: Rate = Rate {
+    cod: 286,
+    ticks: 1000000,
+};
 
-const NITRATE_TICKS: u64 = 1000000;
-
-// Whether COD covers nitrate: it can reduce all of it.
+// Whether COD covers nitrate: it can reduce all of it. This and the two below say the nitrate rule in the words of stage 1, and what the
+// stage's sums need of it.
 fn is_covered(n: Ticks, x: Milligrams) -> bool
     requires { (n.0 ≤ 10000000000000000) × (x.0 ≤ 4000000000000) }
     ensures { result ≡ leb (nitrate_rule.cod * n.0) (nitrate_rule.ticks * x.0) }
 {
-    covers(x, n, NITRATE_COD, NITRATE_TICKS)
+    NITRATE.covers(x, n)
 }
 
 // The nitrate that COD can reduce, rounded down.
@@ -304,7 +305,7 @@ fn reducible(x: Milligrams) -> Ticks
     requires { x.0 ≤ 4000000000000 }
     ensures { result.0 ≡ nitrate_rule.ticks * x.0 / nitrate_rule.cod }
 {
-    ticks_for(x, NITRATE_TICKS, NITRATE_COD)
+    NITRATE.ticks_for(x)
 }
 
 // The COD that reducing nitrate burns, rounded up.
@@ -312,10 +313,10 @@ fn nitrate_cod(n: Ticks) -> Milligrams
     requires { n.0 ≤ 10000000000000000 }
     ensures { (result.0 ≡ ceil (nitrate_rule.cod * n.0) nitrate_rule.ticks) × (result.0 ≤ 4000000000000) }
 {
-    milligrams_for(n, NITRATE_COD, NITRATE_TICKS)
+    NITRATE.milligrams_for(n)
 }
 
-// The same where COD is short for the nitrate: r of it is reduced, and all of the COD is burnt.
+// The demand where COD is short for the nitrate: r of it is reduced, and all of the COD is burnt.
 fn short_demand(a: Milligrams, o: Milligrams, r: Ticks) -> Demand
     ensures { ((result.a ≡ a) × (result.o ≡ o)) × ((result.r ≡ r) × (result.d ≡ a)) }
 {

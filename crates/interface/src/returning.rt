@@ -18,7 +18,7 @@ pub struct Returned {
     pub vector: [u64; 13],
 }
 
-// The return conversion. Refusal 5.
+// The return conversion. Refusal 5. It asks for what `feed_of` asks.
 pub fn return_of(f: Figures, c: [u64; 26]) -> Result<Returned, Refusal>
     requires { (Permitted f) × (Below digester_ceilings c) }
     ensures { result ≡ return_of f c }
@@ -39,7 +39,7 @@ struct Digested {
     ghost low: { LowDigester vector },
 }
 
-// The conversion and its parts.
+// The conversion and its parts. A method that reads many columns names the vector once.
 impl Digested {
     // 5 where xnd, snd and snh hold less than ixe × xi, else the conversion.
     fn convert(self) -> Result<Returned, Refusal>

@@ -11,7 +11,7 @@ use requests::answer_entry;
 use writing::{write_answer, write_held};
 
 // The outcome of a line, and how many bytes its answer has: a refusal has an answer too, so that no Result holds both. With the part of
-// the buffer in the place of the length, the promise would say nothing of the bytes behind it.
+// the buffer in the place of the length, the promise would say nothing of the bytes behind it; C is handed a count.
 #[derive(Clone, Copy)]
 pub struct LineOutcome {
     pub outcome: Outcome,
@@ -44,7 +44,7 @@ fn form_outcome(plant: Plant, asked: Option<Asked>) -> Outcome
 }
 
 // The refusal of a held line, if any, and how many bytes the line has: a refused one is told in bytes too, so that a Result
-// of the length would lose theirs.
+// of the length would lose theirs; C is handed a count.
 #[derive(Clone, Copy)]
 pub struct HeldOutcome {
     pub refusal: Option<Refusal>,

@@ -11,7 +11,8 @@ use reading::find_byte;
 use writing::put_fitting;
 
 // What is carried from block to block: how many bytes of the block are used, how many are held of the line that is not
-// ended, how many answer bytes are not written, and the record.
+// ended, how many answer bytes are not written, and the record. Numbers, and not slices: the buffers are lent anew for each block, and
+// memory is fixed.
 #[derive(Clone, Copy)]
 pub struct Place {
     pub used: usize,
@@ -60,7 +61,8 @@ pub fn end_session(line: &[u8], out: &mut [u8], p: Place) -> Place
 }
 
 // The steps go on in the place itself: it has the whole record, and a copy of it for each line takes time. The two buffers stay beside it:
-// callers lend any slices, and hand the place back and forth by value.
+// callers lend any slices, and hand the place back and forth by value. A struct of the place and `out` with `at + 513 ≤ length out` as its
+// fact was tried: the fact has to hold when a method returns too (`invariant_of-self`), and an answer uses the room up.
 impl Place {
     // Whether a block has bytes left, and the buffers have room for a line and an answer of 512 bytes with its newline.
     fn is_ready(&self, block: &[u8], line: &[u8], out: &[u8]) -> bool
@@ -116,11 +118,10 @@ impl Place {
         if self.held == 0 {
             return;
         }
-        let held = self.held;
-        self.answer(&line[..held], out);
+        self.answer(&line[..self.held], out);
     }
 
-    // The held line and its newline join them.
+    // The held line and its newline join them. It is no twin of `answer`, since it keeps the record: what they share is one `put_fitting`.
     fn tell_held(&mut self, out: &mut [u8])
         requires { self.old.at + 513 ≤ length out.old }
         ensures held_line_put { Put out.old self.old.at (held_line_text house self.old.plant) self.new.at out.new }

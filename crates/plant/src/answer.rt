@@ -1,6 +1,7 @@
 // A call, what it answers, and the outcome.
 ghost use Rattle.std.specs.Prelude.{◌≡◌};
 ghost use Rattle.plant.specs.Answer.{refused, outcome_of, nothing, told};
+ghost use Rattle.plant.specs.Calls.{request};
 
 use crate::record::Plant;
 use refusals::Refusal;
@@ -17,12 +18,26 @@ pub enum Call {
     Recycle(u64),
 }
 
-// A call with the vectors that it is handed: Receive takes sludge, Settle takes digester, and the others none.
+// A call with the vectors that it is handed: Receive takes sludge, Settle takes digester, and the others none. The vectors stand beside the
+// enum, as document 01 asks ("Where each form goes").
 #[derive(Clone, Copy)]
 pub struct Request {
     pub call: Call,
     pub sludge: [u64; 13],
     pub digester: [u64; 26],
+}
+
+// The request of a call by itself: both vectors are zero.
+impl From<Call> for Request {
+    ghost from_gives = { λ c r. r ≡ request c };
+
+    fn from(call: Call) -> Request {
+        Request {
+            call,
+            sludge: [0; 13],
+            digester: [0; 26],
+        }
+    }
 }
 
 // What a call answers: a refusal, or the numbers that it tells.
@@ -34,6 +49,7 @@ pub enum Answer {
         burnt: Milligrams,
         oxygen: Milligrams,
         nitrate: Ticks,
+        // a number, as document 01 tells it: `told_of` and the writer of a line take any
         warn: u64,
     },
     Settled,
@@ -44,7 +60,8 @@ pub enum Answer {
     Recycled,
 }
 
-// The answer, the vector that a release hands out, which is zero otherwise, and the new record.
+// The answer, the vector that a release hands out, which is zero otherwise, and the new record. The vector stands beside the answer, as
+// document 01 asks.
 #[derive(Clone, Copy)]
 pub struct Outcome {
     pub answer: Answer,
@@ -67,14 +84,11 @@ pub fn refusal(p: Plant, r: Refusal) -> Outcome
 pub(crate) fn outcome_of(p: Plant, done: Result<Outcome, Refusal>) -> Outcome
     ensures { result ≡ outcome_of p done }
 {
-    match done {
-        Ok(o) => o,
-        Err(r) => refusal(p, r),
-    }
+    done.unwrap_or_else(|r| refusal(p, r))
 }
 
-// What an answer tells, as numbers: the refusal's, or 0, and the values; those that it does not tell are 0. The C interface and the
-// lines tell them so.
+// What an answer tells, as numbers: the refusal's, or 0, and the values; those that it does not tell are 0. The C interface tells them so,
+// and the sums of the balances are over them.
 #[derive(Clone, Copy)]
 pub struct Told {
     pub number: u64,
@@ -85,7 +99,7 @@ pub struct Told {
     pub stripped: u64,
 }
 
-// The numbers of an answer.
+// The numbers of an answer. No From: the promise says the definition's word, and `Told::from(a)` would say no more.
 pub fn told_of(a: Answer) -> Told
     ensures { result ≡ told a }
 {
@@ -111,7 +125,7 @@ pub fn told_of(a: Answer) -> Told
     }
 }
 
-// A refusal's number, or 0, and no value.
+// A refusal's number, or 0, and no value: its definition's word, and not a Default, whose clause would say no more.
 fn nothing_but(n: u64) -> Told
     ensures { result ≡ nothing n }
 {

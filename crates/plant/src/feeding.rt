@@ -25,12 +25,8 @@ fn fed(plant: Plant, k: u64) -> Result<Outcome, Refusal>
     unless(is_thousandths(k), Refusal::NotThousandths)?;
     let drawn = vectors::drawn(plant.sludge, k);
     let o = interface::feed_of(vectors::HOUSE, drawn)?;
-    unless(
-        vectors::sum_is_within(plant.digester, o.vector),
-        Refusal::TankAbove,
-    )?;
+    let digester = vectors::sum_within(plant.digester, o.vector).ok_or(Refusal::TankAbove)?;
     let sludge = vectors::rest(plant.sludge, k);
-    let digester = vectors::sum(plant.digester, o.vector);
     Ok(Outcome {
         answer: Answer::Fed {
             burnt: o.burnt,

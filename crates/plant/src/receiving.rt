@@ -22,8 +22,7 @@ fn received(plant: Plant, v: [u64; 13]) -> Result<Outcome, Refusal>
 {
     unless(record_within(plant), Refusal::RecordAbove)?;
     unless(vectors::is_within(v), Refusal::ColumnAbove)?;
-    unless(vectors::sum_is_within(plant.sludge, v), Refusal::TankAbove)?;
-    let sludge = vectors::sum(plant.sludge, v);
+    let sludge = vectors::sum_within(plant.sludge, v).ok_or(Refusal::TankAbove)?;
     Ok(Outcome {
         answer: Answer::Received,
         vector: [0; 13],

@@ -10,7 +10,7 @@ pub struct Plant {
     pub reject: [u64; 13],
 }
 
-// A record with every column zero.
+// A record with every column zero, by document 01's word for it and not as a Default.
 pub fn fresh() -> Plant
     ensures { result ≡ fresh_plant }
 {

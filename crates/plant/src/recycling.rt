@@ -23,11 +23,7 @@ fn recycled(plant: Plant, k: u64) -> Result<Outcome, Refusal>
     unless(record_within(plant), Refusal::RecordAbove)?;
     unless(is_thousandths(k), Refusal::NotThousandths)?;
     let drawn = vectors::drawn(plant.reject, k);
-    unless(
-        vectors::sum_is_within(plant.sludge, drawn),
-        Refusal::TankAbove,
-    )?;
-    let sludge = vectors::sum(plant.sludge, drawn);
+    let sludge = vectors::sum_within(plant.sludge, drawn).ok_or(Refusal::TankAbove)?;
     let reject = vectors::rest(plant.reject, k);
     Ok(Outcome {
         answer: Answer::Recycled,

@@ -24,12 +24,8 @@ fn given_back(plant: Plant, k: u64) -> Result<Outcome, Refusal>
     unless(is_thousandths(k), Refusal::NotThousandths)?;
     let drawn = vectors::drawn(plant.digester, k);
     let o = interface::return_of(vectors::HOUSE, drawn)?;
-    unless(
-        vectors::sum_is_within(plant.reject, o.vector),
-        Refusal::TankAbove,
-    )?;
+    let reject = vectors::sum_within(plant.reject, o.vector).ok_or(Refusal::TankAbove)?;
     let digester = vectors::rest(plant.digester, k);
-    let reject = vectors::sum(plant.reject, o.vector);
     Ok(Outcome {
         answer: Answer::Returned {
             stripped: o.stripped,

@@ -45,7 +45,7 @@ fn settled(plant: Plant, gas: Milligrams, d: [u64; 26]) -> Result<Outcome, Refus
 fn cod_closes(old: Milligrams, new: Milligrams, gas: Milligrams) -> bool
     ensures { result ≡ eqb old.0 (new.0 + gas.0) }
 {
-    !(old < new) && old.less(new) == gas
+    new <= old && old.less(new) == gas
 }
 
 // Whether oxygen and nitrate that are carried through are the same.

@@ -1,6 +1,6 @@
 // Reading: a line in brackets is a call with its vectors, a preview of one, or no form.
 //
-//   bytes    comparing and searching
+//   bytes    searching
 //   number   decimal numbers
 //   names    the names of the columns
 //   fields   fields in brackets, in the order of their columns

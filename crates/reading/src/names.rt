@@ -3,7 +3,7 @@ ghost use Rattle.std.specs.Prelude.{true, ◌≡◌};
 ghost use Rattle.reading.specs.Text.{same_bytes};
 ghost use Rattle.reading.specs.Names.{column_of, from_column, unpadded, unpadded_all, distinct};
 
-use crate::bytes::{place, same};
+use crate::bytes::place;
 
 // The names of the columns of an ASM1 vector.
 pub const ASM1_NAMES: [[u8; 4]; 13] = [
@@ -25,17 +25,25 @@ pub enum Vector {
     Digester,
 }
 
-// The column of the name s, looked for at from and behind it.
-pub fn find(names: &[[u8; 4]], from: usize, s: &[u8]) -> Option<usize>
-    requires { distinct (unpadded_all names.now) ≡ true }
-    ensures { result ≡ from_column from (column_of (unpadded_all names.now) s.now) }
-{
-    for c in from..names.len() {
-        if is_name(&names[c], s) {
-            return Some(c);
+// A table of names in which none stands twice.
+#[derive(Clone, Copy)]
+pub struct Names<'a> {
+    pub table: &'a [[u8; 4]],
+    ghost once: { distinct (unpadded_all table.now) ≡ true },
+}
+
+impl<'a> Names<'a> {
+    // The column of the name s, looked for at from and behind it.
+    pub fn find(self, from: usize, s: &[u8]) -> Option<usize>
+        ensures { result ≡ from_column from (column_of (unpadded_all self.entry.table.now) s.now) }
+    {
+        for c in from..self.table.len() {
+            if is_name(&self.table[c], s) {
+                return Some(c);
+            }
         }
+        None
     }
-    None
 }
 
 // Whether s is the name that the four bytes hold. The second byte tells most names apart.
@@ -47,6 +55,6 @@ fn is_name(name: &[u8; 4], s: &[u8]) -> bool
             return false;
         }
     }
-    let k = place(name, 0, 32);
-    same(s, &name[..k])
+    let k = place(name, b' ');
+    s == &name[..k]
 }

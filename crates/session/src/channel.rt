@@ -46,7 +46,7 @@ fn is_passing(clock: &impl Clock, e: &Error) -> bool {
     }
 }
 
-// Writes all of the bytes.
+// Writes all of the bytes. The loop counts nothing: every loop must be proved to end.
 pub fn write_all<O: Write>(clock: &impl Clock, to: &mut O, s: &[u8]) -> Result<(), Failure>
     ensures { OnOk result (Appends (O.contents to.old) (O.contents to.new) s.now) }
 {
@@ -73,8 +73,8 @@ pub fn tell<R: Eprint + Alloc>(rt: &R, f: Failure) {
     }
 }
 
-// What failed, and the system's words alone; with no memory to take the error's number away, as std writes it. A Display could not: it
-// has no memory to take the number away in.
+// What failed, and the system's words alone; with no memory to take the error's number away, as std writes it. No Display: it would have
+// to cut the number off std's text in a buffer of its own, which is no plainer.
 fn tell_of<R: Eprint + Alloc>(rt: &R, what: &str, e: &Error) {
     let _ = match format!(in rt.alloc(); "{e}") {
         Ok(text) => eprintln!(rt; "sludgeline: {what}: {}", without_number(text.as_str())),

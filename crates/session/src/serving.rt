@@ -13,6 +13,7 @@ pub fn serve<R: Env + Input + Print + Eprint + Alloc + Clock>(rt: &R) {
     }
 }
 
+// A conversation, or what the one known word asks for; anything else is told on standard error.
 fn serve_word<R: Env + Input + Print + Eprint + Clock>(rt: &R) -> Result<(), Failure> {
     if !has_word(rt, 1) {
         return talk(rt);

@@ -57,7 +57,7 @@ fn received(unseen: Unseen, o: Outcome) -> SheetOutcome
     }
 }
 
-// The totals of the limits' counts.
+// The totals of the limits' counts, which are a plain array, so that their ceilings are asked for.
 fn unseen_in(readings: [Finding<u64>; 13]) -> Unseen
     requires { Below asm1_ceilings (map limit readings) }
     ensures { result ≡ unseen_by (map limit readings) (count_by missing readings) }

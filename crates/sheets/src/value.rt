@@ -14,7 +14,7 @@ pub struct Scale {
 
 impl Scale {
     // Refusals 13 and 14. A value below zero is not at least zero, so that the bits that are read are those of a number or of minus zero.
-    // The library has no method for the exponent and the digits of a float, so that they are taken off the bits.
+    // std has no method for the exponent and the digits of a float, so that they are taken off the bits.
     pub fn count(self, x: f32) -> Result<u64, Refusal>
         ensures { result ≡ counted_of self.per_unit self.ceiling x }
     {

@@ -3,6 +3,7 @@
 // answers and the held line show which were read, and in the second block releases in a row answer more than twice what the buffer holds.
 #![tactic(auto)]
 
+// A program of its own, since the gate runs each with one input.
 fn main(rt: HostRuntime) {
     session::serve(&rt);
 }

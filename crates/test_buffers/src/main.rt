@@ -108,21 +108,15 @@ fn fed() -> Answer {
 // bytes the part is empty, and the look goes over the whole buffer.
 fn handed_back(buf: &mut [u8], a: Answer, v: [u64; 13]) {
     test_show::fill(buf);
-    let part = writing::filled_answer(buf, a, v);
-    test_show::text(b"handed back [");
-    test_show::text(part);
-    let k = part.len();
-    test_show::text(b"]");
+    let k = test_show::part(b"handed back", writing::filled_answer(buf, a, v));
     test_show::behind(buf, k);
 }
 
-// The buffer's length, the part that an answer of n bytes fills, and what is behind it.
+// The buffer's length, the part that an answer of n bytes fills, and a look behind it: whether the bytes there kept their values.
 fn tell(buf: &[u8], n: usize) {
     test_show::number(b" in ", buf.len() as u64);
     let p = writing::filled_part(buf, n);
     test_show::number(b" bytes ", p.len() as u64);
-    test_show::text(b" [");
-    test_show::text(p);
-    test_show::text(b"]");
+    test_show::part(b"", p);
     test_show::behind(buf, n);
 }

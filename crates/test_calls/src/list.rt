@@ -41,12 +41,13 @@ pub fn balances() {
     let mut run = start();
     let mut x: u64 = 20261115;
     for i in 0..240 {
-        run = one_call(run, x / 64, i);
+        run = called(run, request(run.plant, x / 64, i));
         x = next(x);
     }
     report(run);
 }
 
+// The beginning of a list: a fresh record, and nothing in the sums.
 pub fn start() -> Run {
     Run {
         plant: plant::fresh(),
@@ -61,28 +62,17 @@ fn next(x: u64) -> u64 {
     ((x % 2147483648) * 1103515245 + 12345) % 2147483648
 }
 
-// One call, whose kind goes by i and whose numbers by x.
-fn one_call(run: Run, x: u64, i: u64) -> Run {
-    called(run, request(run.plant, x, i % 8))
-}
-
 // A call behind its preview, and what it adds to the sums; the preview adds nothing.
 pub fn called(run: Run, r: Request) -> Run {
     let seen = requests::preview(run.plant, r);
     let o = requests::answer_request(seen.plant, r);
     let (came, went) = moved(r, o);
+    let accepted = !matches!(o.answer, Answer::Refused(_));
     Run {
         plant: o.plant,
         received: run.received + came,
         gone: run.gone + went,
-        accepted: run.accepted.wrapping_add(accepted(o.answer)),
-    }
-}
-
-fn accepted(a: Answer) -> u64 {
-    match a {
-        Answer::Refused(_) => 0,
-        _ => 1,
+        accepted: run.accepted.wrapping_add(u64::from(accepted)),
     }
 }
 
@@ -136,27 +126,20 @@ fn totals_of(v: [u64; 13]) -> Amounts {
     Amounts::default()
 }
 
-// Receives more often than the other calls; some have a k of 0, and some proposals are open. The kind is a place in a row of eight calls.
-fn request(p: Plant, x: u64, kind: u64) -> Request {
+// The request of place i, whose numbers go by x: of eight in a row, three are receives and the others a call each. Some have a k of 0, and
+// some proposals are open.
+fn request(p: Plant, x: u64, i: u64) -> Request {
     let k = x % 1200;
-    match kind {
-        3 => bare(Call::Feed(k)),
+    match i % 8 {
+        3 => Request::from(Call::Feed(k)),
         4 => settling(p, x),
-        5 => bare(Call::Return(k)),
-        6 => bare(Call::Release(k)),
-        7 => bare(Call::Recycle(k)),
+        5 => Request::from(Call::Return(k)),
+        6 => Request::from(Call::Release(k)),
+        7 => Request::from(Call::Recycle(k)),
         _ => Request {
             sludge: columns(x),
-            ..bare(Call::Receive)
+            ..Request::from(Call::Receive)
         },
-    }
-}
-
-pub fn bare(call: Call) -> Request {
-    Request {
-        call,
-        sludge: [0; 13],
-        digester: [0; 26],
     }
 }
 
@@ -168,10 +151,10 @@ fn settling(p: Plant, x: u64) -> Request {
     d[digester::SSU] -= half;
     d[digester::SCH4] = d[digester::SCH4].wrapping_add(half - vent);
     d[digester::SIC] = x % 1000;
-    let more = if x % 4 == 0 { 1 } else { 0 };
+    let more = u64::from(x % 4 == 0);
     Request {
         digester: d,
-        ..bare(Call::Settle(Milligrams(vent.wrapping_add(more))))
+        ..Request::from(Call::Settle(Milligrams(vent.wrapping_add(more))))
     }
 }
 
@@ -183,6 +166,7 @@ fn columns(x: u64) -> [u64; 13] {
     [a, c, b, c, b, a, b, a, c * 7, c * 9, c * 5, b * 11, a]
 }
 
+// How many calls were accepted, and the four balances.
 pub fn report(run: Run) {
     test_show::number(b"accepted ", run.accepted);
     test_show::text(b"\n");

@@ -1,5 +1,5 @@
 // The same water several times round the works: what comes back from the digester is recycled and fed again.
-use crate::list::{Run, bare, called, report, start};
+use crate::list::{Run, called, report, start};
 use crate::write::tanks;
 use plant::{Call, Request};
 
@@ -18,17 +18,17 @@ fn works() -> Request {
         sludge: [
             101, 40003, 2007, 30001, 5003, 307, 1009, 503, 7000001, 900007, 500009, 80021, 77,
         ],
-        ..bare(Call::Receive)
+        ..Request::from(Call::Receive)
     }
 }
 
 // Most of the water goes round; a tenth of what is left in the reject tank leaves the works.
 fn round(run: Run) -> Run {
-    let fed = called(run, bare(Call::Feed(900)));
-    let returned = called(fed, bare(Call::Return(950)));
-    let recycled = called(returned, bare(Call::Recycle(800)));
+    let fed = called(run, Request::from(Call::Feed(900)));
+    let returned = called(fed, Request::from(Call::Return(950)));
+    let recycled = called(returned, Request::from(Call::Recycle(800)));
     test_show::text(b"round: ");
     tanks(recycled.plant);
     test_show::text(b"\n");
-    called(recycled, bare(Call::Release(100)))
+    called(recycled, Request::from(Call::Release(100)))
 }

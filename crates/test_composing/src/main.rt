@@ -40,6 +40,7 @@ fn some_sludge() -> [u64; 13] {
     [1, 0, 0, 30000, 0, 0, 0, 0, 100000000, 0, 0, 0, 7]
 }
 
+// The same of a digester vector.
 fn some_digester() -> [u64; 26] {
     let columns = [
         (SI, 1),
@@ -81,6 +82,7 @@ fn numbers(buf: &mut [u8], k: u64) {
     }
 }
 
+// A request with such vectors.
 fn some_request(call: Call) -> Request {
     Request {
         call,
@@ -90,23 +92,22 @@ fn some_request(call: Call) -> Request {
 }
 
 // A call and its preview.
-fn both(buf: &mut [u8], r: Request) {
+fn both(buf: &mut [u8], request: Request) {
     for preview in [false, true] {
-        written(buf, r, preview);
+        written(buf, Asked { request, preview });
     }
 }
 
-fn written(buf: &mut [u8], r: Request, preview: bool) {
+// The refusal, the line, and a look behind it: whether the bytes there kept their values.
+fn written(buf: &mut [u8], asked: Asked) {
     test_show::fill(buf);
-    let w = composing::write_line(buf, r, preview);
+    let w = composing::write_line(buf, asked);
     let length = w.unwrap_or(0);
     test_show::number(b"refusal ", w.err().map_or(0, |r| r.number()));
     test_show::number(b" in ", buf.len() as u64);
     test_show::number(b" bytes ", length as u64);
     let part = writing::filled_part(buf, length);
-    test_show::text(b" [");
-    test_show::text(part);
-    test_show::text(b"]");
+    test_show::part(b"", part);
     read_back(part);
     test_show::behind(buf, length);
 }
@@ -114,11 +115,11 @@ fn written(buf: &mut [u8], r: Request, preview: bool) {
 // The part that the writer itself hands back, and a look behind it afterwards: no contract speaks of the bytes there.
 fn handed_back(buf: &mut [u8]) {
     test_show::fill(buf);
-    let part = composing::filled_line(buf, some_request(Call::Receive), true);
-    test_show::text(b"handed back [");
-    test_show::text(part);
-    let k = part.len();
-    test_show::text(b"]");
+    let asked = Asked {
+        request: some_request(Call::Receive),
+        preview: true,
+    };
+    let k = test_show::part(b"handed back", composing::filled_line(buf, asked));
     test_show::behind(buf, k);
 }
 

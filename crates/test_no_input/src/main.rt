@@ -1,6 +1,7 @@
 // The program's session on no input at all.
 #![tactic(auto)]
 
+// A program of its own, since the gate runs each with one input.
 fn main(rt: HostRuntime) {
     session::serve(&rt);
 }

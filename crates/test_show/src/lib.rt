@@ -13,13 +13,23 @@ pub fn text(s: &[u8]) {
     io::write_all(1, s);
 }
 
+// A label and bytes in brackets. It hands back how many they are: where they are part of a lent buffer, a look behind them can follow.
+pub fn part(label: &[u8], s: &[u8]) -> usize {
+    text(label);
+    text(b" [");
+    text(s);
+    text(b"]");
+    s.len()
+}
+
 // A name and a number.
 pub fn number(name: &[u8], x: u64) {
     io::write_all(1, name);
     io::print_decimal(1, x);
 }
 
-// The columns of an ASM1 vector that are not zero, each with its name.
+// The columns of an ASM1 vector that are not zero, each with its name. The names stand here again, so that a test does not read the code's
+// own table.
 pub fn asm1(v: [u64; 13]) {
     let names = [
         *b"   si", *b"   ss", *b"   xi", *b"   xs", *b"  xbh", *b"  xba", *b"   xp", *b"   so",
@@ -28,7 +38,7 @@ pub fn asm1(v: [u64; 13]) {
     columns(names, v);
 }
 
-// The same of a digester vector.
+// The same of a digester vector, whose names stand here again for the same reason.
 pub fn digester(v: [u64; 26]) {
     let names = [
         *b"   si", *b"  ssu", *b"  saa", *b"  sfa", *b"  sva", *b"  sbu", *b" spro", *b"  sac",

@@ -8,7 +8,7 @@ pub fn fill(buf: &mut [u8]) {
     }
 }
 
-// Tells whether the bytes from a place on have the pattern still.
+// Tells whether the bytes from a place on have the pattern still. The place goes beside the buffer: a byte's mark goes by its place in it.
 pub fn behind(buf: &[u8], n: usize) {
     if kept(buf, n) {
         text(b" kept\n");

@@ -1,5 +1,5 @@
 // Ceilings, and sums of vectors.
-ghost use Rattle.std.specs.Prelude.{true, ◌&&◌, ◌≡◌, leb};
+ghost use Rattle.std.specs.Prelude.{true, ◌&&◌, ◌≡◌, leb, cond, Some, None};
 ghost use Rattle.std.specs.List.{fold, list_all, zip};
 ghost use Rattle.vectors.specs.Columns.{within, added, fits};
 
@@ -23,7 +23,7 @@ where
     all_fit(&a, &b, &<[u64; N] as Vector<N>>::CEILINGS)
 }
 
-// The sum of two vectors.
+// The sum of two vectors. By index: of a write through `iter_mut` the logic knows no element.
 pub fn sum<const N: usize>(a: [u64; N], b: [u64; N]) -> [u64; N]
 where
     [u64; N]: Vector<N>,
@@ -35,6 +35,18 @@ where
         s[i] += b[i];
     }
     s
+}
+
+// Their sum, or nothing where a column of it is above its ceiling.
+pub fn sum_within<const N: usize>(a: [u64; N], b: [u64; N]) -> Option<[u64; N]>
+where
+    [u64; N]: Vector<N>,
+    ensures { result ≡ cond (within ⟦<[u64; N] as Vector<N>>⟧.CEILINGS (added a.entry b.entry)) (Some (added a.entry b.entry)) None }
+{
+    if !sum_is_within(a, b) {
+        return None;
+    }
+    Some(sum(a, b))
 }
 
 // Whether each column is at most its ceiling. It goes through all columns, because a test that leaves early runs slower.

@@ -1,4 +1,5 @@
-// The nine figures of document 01. Nitrogen is in ticks per milligram of COD, and fxi, fch, fli are parts in ten thousand.
+// The nine figures of document 01. Nitrogen is in ticks per milligram of COD, and fxi, fch, fli are parts in ten thousand. Any nine numbers
+// are a set: those that need a permitted one say so, since a narrower type would take fewer.
 #[derive(Clone, Copy)]
 pub struct Figures {
     pub ixb: u64,

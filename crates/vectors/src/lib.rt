@@ -15,12 +15,9 @@ mod totals;
 mod units;
 mod vector;
 
-pub use ceilings::{is_within, sum, sum_is_within};
+pub use ceilings::{is_within, sum, sum_is_within, sum_within};
 pub use draw::{drawn, rest};
 pub use figures::{Figures, HOUSE};
 pub use totals::{cod, tkn};
-pub use units::{
-    Milligrams, Millimoles, Ticks, Unit, afforded, covers, milligrams_for, nitrogen, share,
-    ticks_for,
-};
+pub use units::{Milligrams, Millimoles, Rate, Ticks, Unit, afforded, nitrogen, share};
 pub use vector::{COD_CEILING, TICK_CEILING, Vector};

@@ -1,4 +1,4 @@
-// COD and TKN of a vector, by its weights by column.
+// COD and TKN of a vector, by its weights by column. Arrays and figures are of plain types, so that their bounds are asked for.
 ghost use Rattle.std.specs.Prelude.{◌≡◌, ◌≤◌};
 ghost use Rattle.vectors.specs.Columns.{Below};
 ghost use Rattle.vectors.specs.Figures.{Permitted};
@@ -28,7 +28,7 @@ where
     Ticks(weighed(<[u64; N] as Vector<N>>::fractions(f), v))
 }
 
-// Weights times columns, added up.
+// Weights times columns, added up. By index: with zip, map and sum what `sum` asks of each product does not close.
 fn weighed<const N: usize>(weights: [u64; N], v: [u64; N]) -> u64
     requires { weigh weights v ≤ 1000000000000000000 }
     ensures { result ≡ weigh weights.entry v.entry }

@@ -1,5 +1,5 @@
 // One tuple struct for each unit of document 01: a sum or a test of two units does not compile. What goes from one unit to the other
-// stands here: `nitrogen`, `afforded`, `covers`, `ticks_for` and `milligrams_for`. (The totals add raw columns by their weights.)
+// stands here: `nitrogen`, `afforded`, and the methods of `Rate`. (The totals add raw columns by their weights.)
 ghost use Rattle.std.specs.Prelude.{◌≡◌, ℕ, ◌+◌, ◌-◌, ◌*◌, ◌/◌, ◌≤◌, min, leb};
 
 // Milligrams of COD or of oxygen.
@@ -26,7 +26,7 @@ pub trait Unit: Copy {
     fn count(self) -> u64
         ensures { result ≡ count self };
 
-    // The sum of the two.
+    // The sum of the two. No Add: one for each unit would be twins.
     fn plus(self, other: Self) -> Self
         requires { count self + count other ≤ 1000000000000000000 }
         ensures { (count result ≡ count self + count other) × (count result ≤ 1000000000000000000) }
@@ -90,26 +90,36 @@ pub fn share(x: Milligrams, a: u64, b: u64) -> Milligrams
     Milligrams(a * x.0 / b)
 }
 
-// Whether x covers n, at a rate of so many milligrams for so many ticks.
-pub fn covers(x: Milligrams, n: Ticks, cod: u64, ticks: u64) -> bool
-    requires { ((x.0 ≤ 4000000000000) × (ticks ≤ 1000000)) × ((cod ≤ 1000) × (n.0 ≤ 10000000000000000)) }
-    ensures { result ≡ leb (cod * n.0) (ticks * x.0) }
-{
-    cod * n.0 <= ticks * x.0
+// So many milligrams for so many ticks. Each method asks for the rest that it needs: as bounds of the struct the three would accept less.
+#[derive(Clone, Copy)]
+pub struct Rate {
+    pub cod: u64,
+    pub ticks: u64,
+    pub ghost ticks_low: { ticks ≤ 1000000 },
 }
 
-// The ticks of x, at a rate of so many ticks for so many milligrams, rounded down.
-pub fn ticks_for(x: Milligrams, ticks: u64, cod: u64) -> Ticks
-    requires { ((1 ≤ cod) × (ticks ≤ 1000000)) × (x.0 ≤ 4000000000000) }
-    ensures { result.0 ≡ ticks * x.0 / cod }
-{
-    Ticks(ticks * x.0 / cod)
-}
+impl Rate {
+    // Whether x covers n.
+    pub fn covers(self, x: Milligrams, n: Ticks) -> bool
+        requires { (x.0 ≤ 4000000000000) × ((self.cod ≤ 1000) × (n.0 ≤ 10000000000000000)) }
+        ensures { result ≡ leb (self.cod * n.0) (self.ticks * x.0) }
+    {
+        self.cod * n.0 <= self.ticks * x.0
+    }
 
-// The milligrams of n, at a rate of so many milligrams for so many ticks, rounded up.
-pub fn milligrams_for(n: Ticks, cod: u64, ticks: u64) -> Milligrams
-    requires { ((1 ≤ ticks) × (ticks ≤ 1000000)) × ((cod ≤ 1000) × (n.0 ≤ 10000000000000000)) }
-    ensures { result.0 ≡ (cod * n.0 + (ticks - 1)) / ticks }
-{
-    Milligrams((cod * n.0 + (ticks - 1)) / ticks)
+    // The ticks of x, rounded down.
+    pub fn ticks_for(self, x: Milligrams) -> Ticks
+        requires { (1 ≤ self.cod) × (x.0 ≤ 4000000000000) }
+        ensures { result.0 ≡ self.ticks * x.0 / self.cod }
+    {
+        Ticks(self.ticks * x.0 / self.cod)
+    }
+
+    // The milligrams of n, rounded up.
+    pub fn milligrams_for(self, n: Ticks) -> Milligrams
+        requires { (1 ≤ self.ticks) × ((self.cod ≤ 1000) × (n.0 ≤ 10000000000000000)) }
+        ensures { result.0 ≡ (self.cod * n.0 + (self.ticks - 1)) / self.ticks }
+    {
+        Milligrams((self.cod * n.0 + (self.ticks - 1)) / self.ticks)
+    }
 }

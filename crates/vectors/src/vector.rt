@@ -18,7 +18,8 @@ pub const COD_CEILING: u64 = 1000000000000;
 
 pub const TICK_CEILING: u64 = 10000000000000000;
 
-// A vector of N columns in document 01's order.
+// A vector of N columns in document 01's order. It is a plain array, as document 01 asks ("Where each form goes"), so that what needs it
+// within its ceilings says so.
 pub trait Vector<const N: usize> {
     ghost CEILINGS: { List ℕ };
 

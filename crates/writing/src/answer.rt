@@ -13,6 +13,8 @@ use reading::ASM1_NAMES;
 use refusals::Refusal;
 
 // Writes an answer, with the vector of a release, and tells how many bytes it has; a buffer under 512 bytes is left as it is.
+// It gives 0 there and no Result: a short buffer's answer is empty, and neither this nor `write_held` could fail or may begin to.
+// Test, page, writer stand in both and in composing's `write_line`: with a closure the writer's contract would be its requires again.
 pub fn write_answer(buf: &mut [u8], a: Answer, v: [u64; 13]) -> usize
     ensures { Answered buf.old (fitting (length buf.old) (answer_text a v)) result buf.new }
 {
@@ -77,7 +79,7 @@ fn put_refused(page: &mut Page, r: Refusal)
     page.told(&[(b"(no ", r.number())]);
 }
 
-// Writes the held line, without its newline.
+// Writes the held line, without its newline; a short buffer is left as it is. 0, and test, page, writer: as in `write_answer`.
 pub fn write_held(buf: &mut [u8], h: Result<HeldTotals, Refusal>) -> usize
     ensures { Answered buf.old (fitting (length buf.old) (held_text h)) result buf.new }
 {

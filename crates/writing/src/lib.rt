@@ -1,6 +1,6 @@
 // Writing: answers as text into a lent buffer.
 //
-//   put      bytes at a place of a lent buffer
+//   put      bytes where they fit, and the part that is filled
 //   page     bytes, numbers and columns, each behind the piece before
 //   answer   an answer and the held line as text
 #![tactic(auto)]
@@ -11,4 +11,4 @@ mod put;
 
 pub use answer::{filled_answer, write_answer, write_held};
 pub use page::Page;
-pub use put::{filled_part, put_bytes, put_fitting};
+pub use put::{filled_part, put_fitting};

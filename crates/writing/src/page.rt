@@ -5,7 +5,6 @@ ghost use Rattle.writing.specs.Answer.{labelled, told_text, column_text, column_
 ghost use Rattle.reading.specs.Names.{unpadded, unpadded_all};
 ghost use Rattle.writing.specs.Page.{HasRoom, Wrote, parts_of, AllShort};
 
-use crate::put::put_bytes;
 use reading::find_byte;
 
 // A lent buffer, and the place behind what is written in it. The buffer is no array of a fixed length: where the length is a parameter,
@@ -18,11 +17,14 @@ pub struct Page<'a> {
 
 impl<'a> Page<'a> {
     // Bytes.
+    #[tactic(auto, unfolding(crate::specs::Buffer::put_at))]
     pub fn put(&mut self, s: &[u8])
         requires { HasRoom self.old (length s.now) }
         ensures { Wrote self.old s.now self.new }
     {
-        self.at = put_bytes(self.bytes, self.at, s);
+        let end = self.at + s.len();
+        self.bytes[self.at..end].copy_from_slice(s);
+        self.at = end;
     }
 
     // A number's digits, of which there are at most twenty.
@@ -44,7 +46,8 @@ impl<'a> Page<'a> {
         self.number(n);
     }
 
-    // Numbers, each behind its label, and a bracket.
+    // Numbers, each behind its label, and a bracket. As an array of K pairs it was tried: the borrow checker does not cover an array that
+    // holds references and whose length is a const parameter.
     pub fn told(&mut self, parts: &[(&[u8], u64)])
         requires { (HasRoom self.old (40 * length parts.now + 1)) × AllShort parts.now }
         ensures { (Wrote self.old (told_text (parts_of parts.now)) self.new) × (self.new.at ≤ self.old.at + (40 * length parts.now + 1)) }

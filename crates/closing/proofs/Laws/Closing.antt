@@ -72,14 +72,6 @@ module _ (f : Figures) (p : Plant) (d : List ℕ) where
   unfolding gap_of
   gap_is h k = rw (h, k)
 
-  pub gap-above : record_within p ≡ false → Err RecordAbove ≡ gap_of f p d
-  unfolding gap_of
-  gap-above h = rw h
-
-  pub gap-column-above : record_within p ≡ true → within digester_ceilings d ≡ false → Err ColumnAbove ≡ gap_of f p d
-  unfolding gap_of
-  gap-column-above h k = rw (h, k)
-
   pub gap-passed : (g : Gaps) → gap_of f p d ≡ Ok g → (record_within p ≡ true) × (within digester_ceilings d ≡ true)
   unfolding gap_of
   gap-passed g e =

@@ -27,6 +27,7 @@ use Prim.Native.Nat.{ℕ, zero, suc, ◌+◌, ◌-◌, ◌≤◌, ◌<◌}
 use native.Mathlib.Nat.{add-zero}
 use native.Mathlib.Omega.{arith}
 use lib.Dec.{leb, ltb, eqb}
+use Rattle.std.proofs.lemmas.List.{drop_more}
 use lib.ListN.{length, take, drop, get_or, set, length-drop, length-set, drop_of_length-le, take-append-drop}
 use lib.Seq.{split_at, get_or-drop, drop-drop, drop-length, get_or-set_same, get_or-set_other}
 use borrow.Author.Tests.{leb-true, ltb-true, eqb-true, not-true}
@@ -47,7 +48,7 @@ use Rattle.reading.specs.Form.{read_pieces, from_fields, rises, read_fields, fie
 use Rattle.reading.specs.Form.{settle_line, number_words, number_line, settle_part, settle_by, form_of}
 use Rattle.reading.specs.Line.{in_brackets, inner, call_by, preview_line, is_preview, form_in, read_line}
 use Rattle.reading.specs.Line.{bracketed, preview_text, form_passes, call_passes}
-use Rattle.reading.proofs.Laws.Text.{head_at, same-equal, up_to-take, up_to-length, pieces-some}
+use Rattle.reading.proofs.Laws.Text.{same-equal, up_to-take, up_to-length, pieces-some}
 use Rattle.reading.proofs.Laws.Form.{put, left, left_step}
 use Rattle.reading.proofs.Laws.Line.{brackets-two, preview-split, preview-ten}
 use Rattle.writing.specs.Answer.{column_text, column_or_none, columns_from}
@@ -283,7 +284,7 @@ unfolding columns_from column_or_none
 fields_at names v n c k h l z a e =
     fields-skip (c - n) n (drop n names) v (λ j i o. z j i (omega arith))
     ∙ ap₂ (λ (m : ℕ) (ns : List (List ℕ)). fields_from m ns v) place (drop-drop (c - n) n names ∙ ap (λ (m : ℕ). drop m names) place)
-    ∙ ap (λ (ns : List (List ℕ)). fields_from c ns v) (head_at names [] c l)
+    ∙ ap (λ (ns : List (List ℕ)). fields_from c ns v) (drop_more names c [] l)
     ∙ ap (λ (m : ℕ). column_or_none false (get_or names c []) m ++ fields_from (c + 1) (drop (c + 1) names) v) a
     ∙ ap (λ (b : Bool). cond b [] (column_text (get_or names c []) k) ++ fields_from (c + 1) (drop (c + 1) names) v) e
   where

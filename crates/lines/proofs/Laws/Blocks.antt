@@ -16,6 +16,7 @@ use mathlib.Core.Path.{◌≡◌, refl, sym, ap, subst, ◌∙◌}
 use Prim.Native.Nat.{ℕ, ◌+◌, ◌-◌, ◌≤◌, ◌<◌}
 use native.Mathlib.Omega.{arith}
 use lib.Dec.{ltb, leb, eqb}
+use Rattle.std.proofs.lemmas.List.{take_rest}
 use lib.ListN.{length, take, drop, length-drop, drop_of_length-le}
 use lib.Seq.{drop-drop, length-take-le}
 use borrow.Author.Tests.{lt-ltb, le-ltb, le-leb, eq-eqb, leb-true, eqb-true, ltb-true}
@@ -34,7 +35,7 @@ use Rattle.lines.specs.Asking.{outcome_text, line_text, LineAnswered, HeldAnswer
 use Rattle.lines.specs.Session.{last_line, given_by, answer_of, after_line, answers, after_lines, held_line_text, transcript}
 use Rattle.lines.specs.Blocks.{Desk, desk, place_at, fits, room_for, desk_fits, ready, room, gathered, answered_desk, ended, through, line_in, step_of}
 use Rattle.lines.specs.Blocks.{ended_desk, end_of}
-use Rattle.reading.proofs.Laws.Text.{rest_of, up_to-take}
+use Rattle.reading.proofs.Laws.Text.{up_to-take}
 use Rattle.writing.proofs.Laws.Buffer.{put_then, put_same, put-nothing}
 use Rattle.writing.proofs.Laws.Answer.{fitting-all}
 use Rattle.lines.proofs.Laws.Asking.{outcome-full}
@@ -59,7 +60,7 @@ module _ (s : List ℕ) (d : List ℕ) (at : ℕ) {r k : ℕ} {e g : List ℕ} w
   text-gathered : at + 513 ≤ length d → Answered (take (length d - at) (drop at d)) (fitting (length (take (length d - at) (drop at d))) s) r e
       → Put (rejoined d at e) (at + r) (newline ∷ []) k g → Put d at (s ++ (newline ∷ [])) k g × (k ≤ at + 513)
   text-gathered h a q =
-      let b = subst (λ (x : List ℕ). Answered x (fitting (length x) s) r e) (rest_of d at) a in
+      let b = subst (λ (x : List ℕ). Answered x (fitting (length x) s) r e) (take_rest d at) a in
       let m : 512 ≤ length (drop at d) = omega (arith, length-drop at d) in
       let t = subst (λ (x : List ℕ). Answered (drop at d) x r e) (fitting-all (length (drop at d)) s m) b in
       (put_then (part-put d at t) q (omega (arith, q.next, t.within)), omega (arith, q.next, t.within))
@@ -67,7 +68,9 @@ module _ (s : List ℕ) (d : List ℕ) (at : ℕ) {r k : ℕ} {e g : List ℕ} w
 module _ {f : Figures} {p : Plant} {l : List ℕ} (d : List ℕ) (at : ℕ) {r : LineOutcome} {e : List ℕ} where
   given : at + 513 ≤ length d → LineAnswered f p l (take (length d - at) (drop at d)) r e → r.outcome ≡ given_by f p l
   unfolding given_by
-  given h a = a.outcome ∙ outcome-full f (length (take (length d - at) (drop at d))) p l (omega (arith, ap length (rest_of d at), length-drop at d))
+  given h a =
+      let few = take (length d - at) (drop at d) in
+      a.outcome ∙ outcome-full f (length few) p l (omega (arith, ap length (take_rest d at), length-drop at d))
 
   pub answer-gathered : {k : ℕ} {g : List ℕ} → at + 513 ≤ length d → LineAnswered f p l (take (length d - at) (drop at d)) r e
       → Put (rejoined d at e) (at + r.length) (newline ∷ []) k g → ((r.outcome.plant ≡ after_line f p l) × Put d at (answer_of f p l) k g) × (k ≤ at + 513)

@@ -1,17 +1,18 @@
 -- Laws of refusals in their order. Assumes nothing.
 --
 --   stop, pass                    a test that fails sends away; one that holds leaves the decision to the next
+--   room-lost, room-found         the sum of two vectors, or its refusal, tells of the test
 --   flag                          a test of what a function gave is a test of what it stands for
 --   decide-case                   what holds of the outcome where no refusal applies, and of every refusal, holds of the decision
 --   passed, draw-passed           what no refusal tells of the tests
 --   number-passed                 the same by the number
 use mathlib.Core.Bool.{Bool, true, false}
 use mathlib.Core.List.{List, ◌∷◌}
-use mathlib.Core.Path.{◌≡◌, refl, sym, ◌∙◌}
+use mathlib.Core.Path.{◌≡◌, refl, sym, ap, ◌∙◌}
 use Prim.Native.Nat.{ℕ}
 use native.Mathlib.Omega.{arith}
 use lib.Dec.{T, ltb, ltb→lt}
-use Rattle.std.specs.Prelude.{Option, None, Some, Result}
+use Rattle.std.specs.Prelude.{Option, None, Some, Result, Ok, Err, cond, ok_or}
 use Rattle.std.specs.Result.{IsErrAnd}
 use Rattle.refusals.specs.declared.Refusal.{Refusal}
 use Rattle.refusals.specs.declared.Refusal.TheVariants.{RecordAbove, NotThousandths}
@@ -33,6 +34,22 @@ module _ {A : Type 0} (o : A) where
   pub pass : (b : Bool) (r : Refusal) (ts : List (Option Refusal)) {t : Bool} {x : Result A Refusal}
       → t ≡ b → t ≡ true → x ≡ decide (first ts) o → x ≡ decide (first (unless b r ∷ ts)) o
   pass b r ts w f e = rw (sym w ∙ f) e
+
+-- w is the sum s where its test b holds, or the refusal r
+module _ {A : Type 0} (s : A) (r : Refusal) where
+  pub room-lost : (b : Bool) {z : Option A} {w : Result A Refusal} {e : Refusal} → z ≡ cond b (Some s) None → w ≡ ok_or z r → w ≡ Err e → (b ≡ false) × (e ≡ r)
+  room-lost b {e} p q t = go b (sym t ∙ q ∙ ap (λ (y : Option A). ok_or y r) p)
+    where
+      go : (b : Bool) → Err e ≡ ok_or (cond b (Some s) None) r → (b ≡ false) × (e ≡ r)
+      go true h = absurd (cc h)
+      go false h = (refl, cc h)
+
+  pub room-found : (b : Bool) {z : Option A} {w : Result A Refusal} {y : A} → z ≡ cond b (Some s) None → w ≡ ok_or z r → w ≡ Ok y → (b ≡ true) × (y ≡ s)
+  room-found b {y} p q t = go b (sym t ∙ q ∙ ap (λ (y : Option A). ok_or y r) p)
+    where
+      go : (b : Bool) → Ok y ≡ ok_or (cond b (Some s) None) r → (b ≡ true) × (y ≡ s)
+      go true h = (refl, cc h)
+      go false h = absurd (cc h)
 
 -- a flag that a function gave, and the test of it
 pub flag : {b r v : Bool} → r ≡ b → r ≡ v → b ≡ v

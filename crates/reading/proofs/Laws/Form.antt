@@ -7,16 +7,17 @@
 --   left_step                                   one piece of it
 --   left-unclosed, left-next, left_end          one turn of that loop
 --   form-receive, form-settle, form-number, ..  a form, by the place of its first space
-use mathlib.Core.Bool.{Bool, true, false, cond, ◌&&◌, and-false}
+use mathlib.Core.Bool.{Bool, true, false, cond, ◌&&◌, false≢true}
 use mathlib.Core.List.{List, [], ◌∷◌}
 use mathlib.Core.Path.{◌≡◌, refl, sym, ap, ap₂, ◌∙◌}
-use Prim.Native.Nat.{ℕ, suc, ◌+◌, ◌-◌, ◌≤◌, ◌<◌}
-use native.Mathlib.Nat.{zero-add}
+use Prim.Native.Nat.{ℕ, ◌+◌, ◌-◌, ◌≤◌, ◌<◌}
 use native.Mathlib.Omega.{arith}
-use lib.Dec.{ltb, leb}
+use lib.Dec.{eqb, ltb, leb}
 use lib.ListN.{length, take, drop, get_or, set, drop_of_length-le, length-drop}
 use lib.Seq.{drop-drop}
-use borrow.Author.Tests.{eq-eqb, ne_eqb, le-ltb, lt-ltb}
+use borrow.Author.Tests.{le-ltb, lt-ltb}
+use Rattle.std.specs.Cmp.Lexicographic.{pointwise}
+use Rattle.std.proofs.lemmas.List.{take_rest}
 use Rattle.std.proofs.Common.{Option, Some, None, option_and_then}
 use Rattle.reading.specs.declared.names.Vector.TheVariants.{Sludge, Digester}
 use Rattle.reading.specs.declared.fields.Field.{Field}
@@ -28,7 +29,7 @@ use Rattle.reading.specs.Form.{field_of, read_field, read_piece, field, add_fiel
 use Rattle.reading.specs.Form.{read_pieces, from_fields, named, rises, read_fields, field_from}
 use Rattle.reading.specs.Form.{receive_line, settle_line, number_line}
 use Rattle.reading.specs.Form.{settle_by, form_of, form_by}
-use Rattle.reading.proofs.Laws.Text.{rest_of, up_to-place, behind-drop, behind-next, pieces-cut, pieces-last, pieces-some}
+use Rattle.reading.proofs.Laws.Text.{up_to-place, behind-next, pieces-cut, pieces-last, pieces-some}
 use Rattle.reading.proofs.Laws.Number.{number-empty}
 
 -- ---- one field
@@ -48,49 +49,39 @@ field-from n (Some c) (Some k) = go (leb n c)
 field-from n (Some c) None = no_number (from_column n (Some c))
 
 -- where k is the place of its space
-module _ (names : List (List ℕ)) (n : ℕ) (s : List ℕ) (k : ℕ) (e : k ≡ 0 + length (up_to 32 s)) where
+module _ (names : List (List ℕ)) (n : ℕ) (s : List ℕ) (k : ℕ) (e : k ≡ length (up_to 32 s)) where
   pub field-split : field_of (from_column n (column_of names (take k s))) (read_number (take (length s - (k + 1)) (drop (k + 1) s)))
       ≡ field_from n (read_field names s)
   unfolding read_field
   field-split =
       ap₂ (λ (x y : List ℕ). field_of (from_column n (column_of names x)) (read_number y))
-      (up_to-place 32 s k e) (rest_of s (k + 1) ∙ behind-next 32 s k e)
+      (up_to-place 32 s k e) (take_rest s (k + 1) ∙ behind-next 32 s k e)
       ∙ field-from n (column_of names (up_to 32 s)) (read_number (behind 32 s))
 
-  pub field-none : length s ≤ k → None ≡ field_from n (read_field names s)
-  unfolding read_field
-  field-none h =
-      sym
-      (ap (λ (m : Option ℕ). field_from n (field_of (column_of names (up_to 32 s)) m))
-      (ap read_number (sym (behind-next 32 s k e) ∙ drop_of_length-le s {i = k + 1} (omega arith)) ∙ number-empty [] refl)
-      ∙ ap (field_from n) (no_number (column_of names (up_to 32 s))))
+-- where it has no space
+pub field-none : (names : List (List ℕ)) (n : ℕ) (s : List ℕ) → length s ≡ length (up_to 32 s) → None ≡ field_from n (read_field names s)
+unfolding read_field
+field-none names n s e =
+    sym
+    (ap (λ (m : Option ℕ). field_from n (field_of (column_of names (up_to 32 s)) m))
+    (ap read_number (sym (behind-next 32 s (length s) e) ∙ drop_of_length-le s {i = length s + 1} (omega arith)) ∙ number-empty [] refl)
+    ∙ ap (field_from n) (no_number (column_of names (up_to 32 s))))
 
 -- ---- a space, an opening bracket and a field
 
+-- by what the library's strip_prefix tells of the two
 module _ (names : List (List ℕ)) where
-  pub piece-short : (s : List ℕ) → length s < 2 → None ≡ read_piece names s
+  pub piece-none : (s : List ℕ) → pointwise eqb (take 2 s) (32 ∷ 40 ∷ []) ≡ false → None ≡ read_piece names s
   unfolding read_piece
-  piece-short [] h = refl
-  piece-short (a ∷ []) h = refl
-  piece-short (a ∷ (b ∷ s)) h = absurd (omega arith)
+  piece-none [] h = refl
+  piece-none (a ∷ []) h = refl
+  piece-none (a ∷ (b ∷ s)) h = grind (arith, h)
 
-  pub piece-first : (s : List ℕ) → (get_or s 0 0 ≡ 32 → ⊥) → None ≡ read_piece names s
+  pub piece-well : (s : List ℕ) → pointwise eqb (take 2 s) (32 ∷ 40 ∷ []) ≡ true → read_field names (drop 2 s) ≡ read_piece names s
   unfolding read_piece
-  piece-first [] h = refl
-  piece-first (a ∷ []) h = refl
-  piece-first (a ∷ (b ∷ s)) h = simp (ne_eqb a 32 h)
-
-  pub piece-second : (s : List ℕ) → (get_or s 1 0 ≡ 40 → ⊥) → None ≡ read_piece names s
-  unfolding read_piece
-  piece-second [] h = refl
-  piece-second (a ∷ []) h = refl
-  piece-second (a ∷ (b ∷ s)) h = simp (ne_eqb b 40 h, and-false)
-
-  pub piece-well : (s : List ℕ) → 2 ≤ length s → get_or s 0 0 ≡ 32 → get_or s 1 0 ≡ 40 → read_field names (drop 2 s) ≡ read_piece names s
-  unfolding read_piece
-  piece-well [] h p q = absurd (omega arith)
-  piece-well (a ∷ []) h p q = absurd (omega arith)
-  piece-well (a ∷ (b ∷ s)) h p q = simp (eq-eqb a 32 p, eq-eqb b 40 q)
+  piece-well [] h = absurd (false≢true h)
+  piece-well (a ∷ []) h = grind (arith, h)
+  piece-well (a ∷ (b ∷ s)) h = grind (arith, h)
 
 -- ---- a further field, by its column
 
@@ -188,10 +179,8 @@ module _ (names : List (List ℕ)) (n : ℕ) (f : Fields) (s : List ℕ) (i : �
 
     rest_at : drop (e + 1) s ≡ behind 41 (drop i s)
     rest_at =
-        ap (λ (j : ℕ). drop j s) place ∙ sym (drop-drop (suc (length (up_to 41 (drop i s)))) i s) ∙ behind-drop 41 (drop i s)
-      where
-        place : e + 1 ≡ i + suc (length (up_to 41 (drop i s)))
-        place = omega arith
+        let place : e + 1 ≡ i + (e - i + 1) = omega arith in
+        ap (λ (j : ℕ). drop j s) place ∙ sym (drop-drop (e - i + 1) i s) ∙ behind-next 41 (drop i s) (e - i) (omega arith)
 
     pub left-next : (g : Option Fields) → g ≡ add_field f x → left names n f (pieces 41 (drop i s))
         ≡ option_and_then (λ (y : Fields). left names (column_in x + 1) y (pieces 41 (drop (e + 1) s))) g
@@ -205,9 +194,9 @@ module _ (names : List (List ℕ)) (n : ℕ) (f : Fields) (s : List ℕ) (i : �
 
 -- ---- a form, where k is the place of its first space
 
-module _ (t : List ℕ) (k : ℕ) (e : k ≡ 0 + length (up_to 32 t)) where
+module _ (t : List ℕ) (k : ℕ) (e : k ≡ length (up_to 32 t)) where
   pub rest_part : take (length t - k) (drop k t) ≡ drop (length (up_to 32 t)) t
-  rest_part = rest_of t k ∙ ap (λ (j : ℕ). drop j t) (e ∙ zero-add (length (up_to 32 t)))
+  rest_part = take_rest t k ∙ ap (λ (j : ℕ). drop j t) e
 
   pub settle-split : settle_line (read_number (take k t)) (read_fields (names_of Digester) (take (length t - k) (drop k t)))
       ≡ settle_by read_fields t

@@ -1,6 +1,7 @@
 -- Laws of whole lines. Assumes nothing.
 --
---   brackets-short, brackets-long, brackets-open, brackets-close   the test of the brackets
+--   brackets-short, brackets-long, brackets-open, brackets-close,  the test of the brackets
+--   brackets-both
 --   brackets-two                                                   what is inside them begins behind the first byte
 --   call_none, call-form                                           the form of a call in its brackets, by that test
 --   preview-word, preview-brackets, preview-ten                    the test of a preview
@@ -12,7 +13,6 @@ use mathlib.Core.List.{List, [], ◌∷◌, ◌++◌}
 use mathlib.Core.Path.{◌≡◌, refl, sym, ap, ◌∙◌}
 use Prim.Native.Nat.{ℕ, ◌+◌, ◌-◌, ◌≤◌, ◌<◌}
 use native.Mathlib.Omega.{arith}
-use lib.Dec.{eqb}
 use lib.ListN.{length, take, drop, get_or, length-append, take-append-drop}
 use lib.Seq.{get_or_at, take_at, take-append-add}
 use borrow.Author.Tests.{eq-eqb, ne_eqb, le-leb, lt-leb, leb-true}
@@ -46,9 +46,19 @@ module _ (s : List ℕ) where
   unfolding in_brackets
   brackets-open h = simp (ne_eqb (get_or s 0 0) 40 h, and-false)
 
-  pub brackets-close : 2 ≤ length s → length s ≤ 1024 → get_or s 0 0 ≡ 40 → eqb (get_or s (length s - 1) 0) 41 ≡ in_brackets s
+  pub brackets-close : (get_or s (length s - 1) 0 ≡ 41 → ⊥) → false ≡ in_brackets s
   unfolding in_brackets
-  brackets-close h k a = simp (le-leb 2 (length s) h, le-leb (length s) 1024 k, eq-eqb (get_or s 0 0) 40 a)
+  brackets-close h = simp (ne_eqb (get_or s (length s - 1) 0) 41 h, and-false)
+
+  pub brackets-both : 2 ≤ length s → length s ≤ 1024 → get_or s 0 0 ≡ 40 → get_or s (length s - 1) 0 ≡ 41 → true ≡ in_brackets s
+  unfolding in_brackets
+  brackets-both h k a b =
+      simp (
+        le-leb 2 (length s) h,
+        le-leb (length s) 1024 k,
+        eq-eqb (get_or s 0 0) 40 a,
+        eq-eqb (get_or s (length s - 1) 0) 41 b,
+      )
 
   pub brackets-two : in_brackets s ≡ true → 2 ≤ length s
   unfolding in_brackets
@@ -178,7 +188,8 @@ unfolding read_line
 call_line u = go (is_preview u) refl
   where
     go : (b : Bool) → is_preview u ≡ b
-        → preview_line (call_by read_fields u) ≡ preview_line (cond b (preview_line (call_by read_fields (form_in u))) (call_by read_fields u))
+        → preview_line (call_by read_fields u)
+        ≡ preview_line (cond b (preview_line (call_by read_fields (form_in u))) (call_by read_fields u))
     go true e = ap preview_line (call-preview u e) ∙ sym (preview-twice (call_by read_fields (form_in u)))
     go false e = refl
 

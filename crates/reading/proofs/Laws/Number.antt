@@ -13,8 +13,8 @@ use native.Mathlib.Omega.{arith}
 use lib.ListN.{length, drop, get_or, drop_of_length-le}
 use borrow.Author.Tests.{lt-leb, le-leb, eq-eqb, ne_eqb}
 use Rattle.std.proofs.Common.{Some, None}
+use Rattle.std.proofs.lemmas.List.{drop_more}
 use Rattle.reading.specs.Number.{is_digit, all_digits, value_after, leads, largest, read_after, read_number}
-use Rattle.reading.proofs.Laws.Text.{head_at}
 
 -- a further digit makes no number smaller
 value_grows : (s : List ℕ) (n : ℕ) → n ≤ value_after n s
@@ -37,16 +37,16 @@ module _ (n b : ℕ) (t : List ℕ) where
 
 module _ (s : List ℕ) (n i : ℕ) (h : i < length s) where
   pub other-at : is_digit (get_or s i 0) ≡ false → read_after n (drop i s) ≡ None
-  other-at k = ap (read_after n) (head_at s 0 i h) ∙ other n (get_or s i 0) (drop (i + 1) s) k
+  other-at k = ap (read_after n) (drop_more s i 0 h) ∙ other n (get_or s i 0) (drop (i + 1) s) k
 
   pub large-at : largest < n * 10 + (get_or s i 0 - 48) → read_after n (drop i s) ≡ None
-  large-at k = ap (read_after n) (head_at s 0 i h) ∙ large n (get_or s i 0) (drop (i + 1) s) k
+  large-at k = ap (read_after n) (drop_more s i 0 h) ∙ large n (get_or s i 0) (drop (i + 1) s) k
 
   -- m is the number behind it
   pub digit_at : (m : ℕ) → m ≡ n * 10 + (get_or s i 0 - 48) → is_digit (get_or s i 0) ≡ true
       → read_after n (drop i s) ≡ read_after m (drop (i + 1) s)
   digit_at m e k =
-      ap (read_after n) (head_at s 0 i h)
+      ap (read_after n) (drop_more s i 0 h)
       ∙ digit n (get_or s i 0) (drop (i + 1) s) k
       ∙ ap (λ (j : ℕ). read_after j (drop (i + 1) s)) (sym e)
 

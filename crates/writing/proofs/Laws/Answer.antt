@@ -16,6 +16,7 @@ use Rattle.holding.specs.declared.holding.HeldTotals.{HeldTotals}
 use Rattle.writing.specs.declared.page.Page.{Page}
 use Rattle.writing.specs.Buffer.{Put, Answered}
 use Rattle.writing.specs.Page.{Wrote}
+use Rattle.writing.proofs.Laws.Page.{written}
 use Rattle.writing.specs.Answer.{held_text, fitting}
 use Rattle.writing.proofs.Laws.Buffer.{answered}
 
@@ -26,7 +27,9 @@ pub fitting-all : (n : ℕ) (s : List ℕ) → 512 ≤ n → fitting n s ≡ s
 fitting-all n s h = ap (λ b. cond b [] s) (le-ltb n 512 h)
 
 pub too_short : (d s : List ℕ) → length d < 512 → Answered d (fitting (length d) s) 0 d
-too_short d s h = subst (λ (t : List ℕ). Answered d t 0 d) (sym (fitting-none (length d) s h)) (record { count = refl; buffer = refl; within = omega arith })
+too_short d s h =
+    let none = sym (fitting-none (length d) s h) in
+    subst (λ (t : List ℕ). Answered d t 0 d) none (record { count = refl; buffer = refl; within = omega arith })
 
 -- an answer on a page over a buffer of 512 bytes or more; e is what the buffer holds when the page is given up
 pub paged : {p q : Page} {s e : List ℕ} → e ≡ q.bytes.now → 512 ≤ length p.bytes.now → p.at ≡ 0 → Wrote p s q × (q.at ≤ p.at + 512)
@@ -35,7 +38,7 @@ paged {p} {q} {s} {e} last h start w =
     let d = p.bytes.now in
     let room = sym (fitting-all (length d) s h) in
     subst (λ (t : List ℕ). Answered d t q.at e) room
-    (answered (subst (λ (j : ℕ). Put d j s q.at e) start (subst (λ (x : List ℕ). Put d p.at s q.at x) (sym last) w.0.put))
+    (answered (subst (λ (j : ℕ). Put d j s q.at e) start (written last w.0))
     (omega (arith, w.1, start)))
 
 module _ {d e : List ℕ} {r : ℕ} where

@@ -2,6 +2,7 @@
 --
 --   wrote_then                 two writers, one behind the other, are one
 --   wrote_same                 the bytes under another name
+--   written                    what stands in the buffer itself
 --   wrote-nothing              no bytes
 --   told-room, told-then, told-all        a number behind its label, and all of them with the bracket
 --   column-all, column-some, column-none  a column that is written, and one that is left away
@@ -18,14 +19,15 @@ use lib.ListN.{length, length-map, take, get_or}
 use borrow.Author.Tests.{ne_eqb, leb-true}
 use Rattle.std.specs.Borrow.{Bor}
 use Rattle.std.specs.List.{flat_map}
+use Rattle.std.proofs.lemmas.List.{get_or-map}
 use Rattle.std.proofs.lemmas.List.Folds.{list_all_at}
 use Rattle.reading.specs.Text.{ascii}
 use Rattle.reading.specs.Names.{unpadded, unpadded_all}
-use Rattle.reading.proofs.Laws.Names.{unpadded-length, unpadded-at}
 use lib.Seq.{take_all}
 use Rattle.writing.specs.declared.page.Page.{Page}
 use Rattle.writing.specs.Page.{HasRoom, Wrote, parts_of, AllShort}
 use Rattle.writing.specs.Answer.{labelled, told_text, column_text, column_or_none, columns_from, columns_text}
+use Rattle.writing.specs.Buffer.{Put}
 use Rattle.writing.proofs.Laws.Buffer.{put_then, put-nothing}
 
 module _ {p q : Page} {s t : List ℕ} where
@@ -34,6 +36,9 @@ module _ {p q : Page} {s t : List ℕ} where
 
   pub wrote_same : s ≡ t → Wrote p s q → Wrote p t q
   wrote_same e a = subst (λ (x : List ℕ). Wrote p x q) e a
+
+pub written : {p q : Page} {s e : List ℕ} → e ≡ q.bytes.now → Wrote p s q → Put p.bytes.now p.at s q.at e
+written {p} {q} {s} last a = subst (λ (x : List ℕ). Put p.bytes.now p.at s q.at x) (sym last) a.put
 
 pub wrote-nothing : (p : Page) → Wrote p [] p
 wrote-nothing p = record { same = refl; put = put-nothing p.bytes.now p.at; room = refl }
@@ -131,10 +136,10 @@ module _ {p q : Page} (z : Bool) (table : List (List ℕ)) (c : ℕ) (v : List �
       → Wrote p (columns_text z (take (c + 1) (unpadded_all table)) v) r
   columns-then l a b h =
       let names = unpadded_all table in
-      let many = unpadded-length table in
+      let many = length-map table unpadded in
       let more : columns_text z (take c names) v ++ column_or_none z (unpadded (get_or table c [])) (get_or v c 0)
       ≡ columns_text z (take (suc c) names) v =
-      ap (λ (n : List ℕ). columns_text z (take c names) v ++ column_or_none z n (get_or v c 0)) (sym (unpadded-at table c l))
+      ap (λ (n : List ℕ). columns_text z (take c names) v ++ column_or_none z n (get_or v c 0)) (sym (get_or-map unpadded table c [] [] l))
       ∙ ap (λ (j : ℕ). columns_text z (take c names) v ++ column_or_none z (get_or names c []) (get_or v j 0)) (sym (zero-add c))
       ∙ sym (columns-last z c 0 names v (omega (arith, many, l))) in
       wrote_same (more ∙ ap (λ (j : ℕ). columns_text z (take j names) v) (sym (add-one c))) (wrote_then a b h)
@@ -143,5 +148,5 @@ module _ {p q : Page} (z : Bool) (table : List (List ℕ)) (c : ℕ) (v : List �
   pub columns-all : length table ≤ c → Wrote p (columns_text z (take c (unpadded_all table)) v) q
       → Wrote p (columns_text z (unpadded_all table) v) q
   columns-all h a =
-      let many = unpadded-length table in
+      let many = length-map table unpadded in
       wrote_same (ap (λ (ns : List (List ℕ)). columns_text z ns v) (take_all c (unpadded_all table) (omega (arith, many, h)))) a

@@ -4,7 +4,7 @@ use Rattle.writing.proofs.Laws.Page.{wrote_then, wrote_same}
 use Rattle.composing.proofs.Laws.Buffer.{entry-preview}
 use Rattle.composing.proofs.line.put_entry.Goals as goal
 
-pub returns-then-preview : goal.returns-then-preview
-returns-then-preview c =
-    let w = wrote_then c.put.ensures (wrote_then c.put_call.ensures.0 c.put-then-preview.ensures (omega arith)) (omega arith) in
-    (wrote_same (entry-preview c.args.r c.if-preview.true) w, omega arith)
+pub returns-then-asked : goal.returns-then-asked
+returns-then-asked c =
+    let w = wrote_then c.put.ensures (wrote_then c.put_call.ensures.0 c.put-then-asked.ensures (omega arith)) (omega arith) in
+    (wrote_same (entry-preview c.args.asked.request c.if-asked.true) w, omega arith)

@@ -12,4 +12,4 @@ returns-then-buf-lt1025 c = line_refused _ _ _ (omega arith)
 pub returns : goal.returns
 returns c =
     let w = wrote_then c.put_entry.ensures.0 c.put.ensures (omega arith) in
-    line-written c.args.preview c.args.r (search rules) (omega arith) refl w
+    line-written c.args.asked.preview c.args.asked.request (search rules) (omega arith) refl w

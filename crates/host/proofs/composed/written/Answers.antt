@@ -5,6 +5,6 @@ use Rattle.host.proofs.composed.written.Goals as goal
 
 pub returns : goal.returns
 returns c = record {
-  count = c.unwrap_or.ensures ∙ line-count _ _ _ c.write_line-w.ensures;
-  buffer = c.write_line-w.ensures.buffer;
+  count = c.unwrap_or.ensures ∙ line-count _ _ _ c.write_line.ensures;
+  buffer = c.write_line.ensures.buffer;
 }

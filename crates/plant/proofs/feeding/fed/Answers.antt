@@ -9,7 +9,7 @@ use Rattle.vectors.proofs.Laws.Draw.{drawn-below}
 use Rattle.interface.specs.Feed.{feed_of}
 use Rattle.plant.specs.Calls.{feed, ruled}
 use Rattle.interface.proofs.Laws.Whole.{err-is}
-use Rattle.plant.proofs.Laws.Decision.{stop, pass}
+use Rattle.plant.proofs.Laws.Decision.{stop, pass, room-lost, room-found}
 use Rattle.plant.proofs.Laws.Record.{sludge-within, drawable}
 use Rattle.plant.proofs.feeding.fed.Goals as goal
 use mathlib.Core.List.{List, []}
@@ -68,16 +68,16 @@ returns-in_err-o c =
     (pass _ _ _ _ c.is_thousandths.ensures c.in_ok-unless-2.ensures.passed
     (err-is c.from_residual-in_err-o.result c.from_residual-in_err-o.ensures.1 refl ∙ ap (converted p r) e))
 
-pub returns-in_err-unless-3 : goal.returns-in_err-unless-3
+pub returns-in_err-digester : goal.returns-in_err-digester
 unfolding feed ruled
-returns-in_err-unless-3 c =
+returns-in_err-digester c =
     let p = c.args.plant in
     let r = rest c.args.k p.sludge in
     let e = c.in_ok-o.ensures ∙ ap (feed_of house) c.drawn-drawn.ensures in
     pass _ _ _ _ c.record_within.ensures c.in_ok-unless.ensures.passed
     (pass _ _ _ _ c.is_thousandths.ensures c.in_ok-unless-2.ensures.passed
-    (stop (fed p (Ok c.in_ok-o.o) r) _ TankAbove [] c.sum_is_within.ensures c.in_err-unless-3.ensures.sent
-    c.from_residual-in_err-unless-3.ensures.1
+    (stop (fed p (Ok c.in_ok-o.o) r) _ TankAbove [] refl (room-lost _ TankAbove _ c.sum_within.ensures c.ok_or.ensures.value c.in_err-digester.was)
+    c.from_residual-in_err-digester.ensures.1
     ∙ ap (converted p r) e))
 
 pub returns : goal.returns
@@ -86,8 +86,9 @@ returns c =
     let p = c.args.plant in
     let r = rest c.args.k p.sludge in
     let e = c.in_ok-o.ensures ∙ ap (feed_of house) c.drawn-drawn.ensures in
+    let room = room-found _ TankAbove _ c.sum_within.ensures c.ok_or.ensures.value c.in_ok-digester.was in
     pass _ _ _ _ c.record_within.ensures c.in_ok-unless.ensures.passed
     (pass _ _ _ _ c.is_thousandths.ensures c.in_ok-unless-2.ensures.passed
-    (pass (fed p (Ok c.in_ok-o.o) r) _ TankAbove [] c.sum_is_within.ensures c.in_ok-unless-3.ensures.passed
-    (cc (c.rest-sludge.ensures, c.sum-digester.ensures))
+    (pass (fed p (Ok c.in_ok-o.o) r) _ TankAbove [] refl room.0
+    (cc (c.rest-sludge.ensures, room.1))
     ∙ ap (converted p r) e))

@@ -1,6 +1,8 @@
 -- `plant::receiving::received` meets its contract. Assumes nothing.
+use mathlib.Core.Path.{refl}
+use Rattle.refusals.specs.declared.Refusal.TheVariants.{TankAbove}
 use Rattle.plant.specs.Calls.{receive, ruled}
-use Rattle.plant.proofs.Laws.Decision.{stop, pass}
+use Rattle.plant.proofs.Laws.Decision.{stop, pass, room-lost, room-found}
 use Rattle.plant.proofs.receiving.received.Goals as goal
 
 pub returns-in_err-unless : goal.returns-in_err-unless
@@ -14,17 +16,18 @@ returns-in_err-unless-2 c =
     pass _ _ _ _ c.record_within.ensures c.in_ok-unless.ensures.passed
     (stop _ _ _ _ c.is_within.ensures c.in_err-unless-2.ensures.sent c.from_residual-in_err-unless-2.ensures.1)
 
-pub returns-in_err-unless-3 : goal.returns-in_err-unless-3
+pub returns-in_err-sludge : goal.returns-in_err-sludge
 unfolding receive ruled
-returns-in_err-unless-3 c =
+returns-in_err-sludge c =
     pass _ _ _ _ c.record_within.ensures c.in_ok-unless.ensures.passed
     (pass _ _ _ _ c.is_within.ensures c.in_ok-unless-2.ensures.passed
-    (stop _ _ _ _ c.sum_is_within.ensures c.in_err-unless-3.ensures.sent c.from_residual-in_err-unless-3.ensures.1))
+    (stop _ _ _ _ refl (room-lost _ TankAbove _ c.sum_within.ensures c.ok_or.ensures.value c.in_err-sludge.was)
+    c.from_residual-in_err-sludge.ensures.1))
 
 pub returns : goal.returns
 unfolding receive ruled
 returns c =
+    let room = room-found _ TankAbove _ c.sum_within.ensures c.ok_or.ensures.value c.in_ok-sludge.was in
     pass _ _ _ _ c.record_within.ensures c.in_ok-unless.ensures.passed
     (pass _ _ _ _ c.is_within.ensures c.in_ok-unless-2.ensures.passed
-    (pass _ _ _ _ c.sum_is_within.ensures c.in_ok-unless-3.ensures.passed
-    (cc c.sum-sludge.ensures)))
+    (pass _ _ _ _ refl room.0 (cc room.1)))

@@ -1,9 +1,14 @@
 -- `plant::recycling::recycled` meets its contract. Assumes nothing.
 use native.Mathlib.Omega.{arith}
-use mathlib.Core.Path.{ap, ◌∙◌}
+use mathlib.Core.Path.{refl, ap, ◌∙◌}
+use mathlib.Core.List.{List}
+use Prim.Native.Nat.{ℕ}
+use Rattle.std.specs.Prelude.{Option, Some, None, cond}
+use Rattle.refusals.specs.declared.Refusal.TheVariants.{TankAbove}
+use Rattle.plant.specs.declared.record.Plant.{Plant}
 use Rattle.vectors.specs.Columns.{asm1_ceilings, within, added}
 use Rattle.plant.specs.Calls.{recycle, ruled}
-use Rattle.plant.proofs.Laws.Decision.{stop, pass}
+use Rattle.plant.proofs.Laws.Decision.{stop, pass, room-lost, room-found}
 use Rattle.plant.proofs.Laws.Record.{reject-within, drawable}
 use Rattle.plant.proofs.recycling.recycled.Goals as goal
 
@@ -32,17 +37,24 @@ returns-in_err-unless-2 c =
     pass _ _ _ _ c.record_within.ensures c.in_ok-unless.ensures.passed
     (stop _ _ _ _ c.is_thousandths.ensures c.in_err-unless-2.ensures.sent c.from_residual-in_err-unless-2.ensures.1)
 
-pub returns-in_err-unless-3 : goal.returns-in_err-unless-3
+-- the sum, or nothing
+abbrev summed : (p : Plant) (v : List ℕ) → Option (List ℕ)
+summed p v = cond (within asm1_ceilings (added p.sludge v)) (Some (added p.sludge v)) None
+
+pub returns-in_err-sludge : goal.returns-in_err-sludge
 unfolding recycle ruled
-returns-in_err-unless-3 c =
+returns-in_err-sludge c =
+    let sum = c.sum_within.ensures ∙ ap (summed c.args.plant) c.drawn-drawn.ensures in
     pass _ _ _ _ c.record_within.ensures c.in_ok-unless.ensures.passed
     (pass _ _ _ _ c.is_thousandths.ensures c.in_ok-unless-2.ensures.passed
-    (stop _ _ _ _ (c.sum_is_within.ensures ∙ ap (within asm1_ceilings) (ap (added c.args.plant.sludge) c.drawn-drawn.ensures)) c.in_err-unless-3.ensures.sent c.from_residual-in_err-unless-3.ensures.1))
+    (stop _ _ _ _ refl (room-lost _ TankAbove _ sum c.ok_or.ensures.value c.in_err-sludge.was)
+    c.from_residual-in_err-sludge.ensures.1))
 
 pub returns : goal.returns
 unfolding recycle ruled
 returns c =
+    let sum = c.sum_within.ensures ∙ ap (summed c.args.plant) c.drawn-drawn.ensures in
+    let room = room-found _ TankAbove _ sum c.ok_or.ensures.value c.in_ok-sludge.was in
     pass _ _ _ _ c.record_within.ensures c.in_ok-unless.ensures.passed
     (pass _ _ _ _ c.is_thousandths.ensures c.in_ok-unless-2.ensures.passed
-    (pass _ _ _ _ (c.sum_is_within.ensures ∙ ap (within asm1_ceilings) (ap (added c.args.plant.sludge) c.drawn-drawn.ensures)) c.in_ok-unless-3.ensures.passed
-    (cc (c.sum-sludge.ensures, c.drawn-drawn.ensures, c.rest-reject.ensures))))
+    (pass _ _ _ _ refl room.0 (cc (room.1, c.rest-reject.ensures))))

@@ -9,7 +9,7 @@ use Rattle.vectors.proofs.Laws.Draw.{drawn-below}
 use Rattle.interface.specs.Return.{return_of}
 use Rattle.plant.specs.Calls.{give_back, ruled}
 use Rattle.interface.proofs.Laws.Whole.{err-is}
-use Rattle.plant.proofs.Laws.Decision.{stop, pass}
+use Rattle.plant.proofs.Laws.Decision.{stop, pass, room-lost, room-found}
 use Rattle.plant.proofs.Laws.Record.{digester-within, drawable}
 use Rattle.plant.proofs.returning.given_back.Goals as goal
 use mathlib.Core.List.{List, []}
@@ -68,16 +68,16 @@ returns-in_err-o c =
     (pass _ _ _ _ c.is_thousandths.ensures c.in_ok-unless-2.ensures.passed
     (err-is c.from_residual-in_err-o.result c.from_residual-in_err-o.ensures.1 refl ∙ ap (converted p r) e))
 
-pub returns-in_err-unless-3 : goal.returns-in_err-unless-3
+pub returns-in_err-reject : goal.returns-in_err-reject
 unfolding give_back ruled
-returns-in_err-unless-3 c =
+returns-in_err-reject c =
     let p = c.args.plant in
     let r = rest c.args.k p.digester in
     let e = c.in_ok-o.ensures ∙ ap (return_of house) c.drawn-drawn.ensures in
     pass _ _ _ _ c.record_within.ensures c.in_ok-unless.ensures.passed
     (pass _ _ _ _ c.is_thousandths.ensures c.in_ok-unless-2.ensures.passed
-    (stop (returned p (Ok c.in_ok-o.o) r) _ TankAbove [] c.sum_is_within.ensures c.in_err-unless-3.ensures.sent
-    c.from_residual-in_err-unless-3.ensures.1
+    (stop (returned p (Ok c.in_ok-o.o) r) _ TankAbove [] refl (room-lost _ TankAbove _ c.sum_within.ensures c.ok_or.ensures.value c.in_err-reject.was)
+    c.from_residual-in_err-reject.ensures.1
     ∙ ap (converted p r) e))
 
 pub returns : goal.returns
@@ -86,8 +86,9 @@ returns c =
     let p = c.args.plant in
     let r = rest c.args.k p.digester in
     let e = c.in_ok-o.ensures ∙ ap (return_of house) c.drawn-drawn.ensures in
+    let room = room-found _ TankAbove _ c.sum_within.ensures c.ok_or.ensures.value c.in_ok-reject.was in
     pass _ _ _ _ c.record_within.ensures c.in_ok-unless.ensures.passed
     (pass _ _ _ _ c.is_thousandths.ensures c.in_ok-unless-2.ensures.passed
-    (pass (returned p (Ok c.in_ok-o.o) r) _ TankAbove [] c.sum_is_within.ensures c.in_ok-unless-3.ensures.passed
-    (cc (c.rest-digester.ensures, c.sum-reject.ensures))
+    (pass (returned p (Ok c.in_ok-o.o) r) _ TankAbove [] refl room.0
+    (cc (c.rest-digester.ensures, room.1))
     ∙ ap (converted p r) e))

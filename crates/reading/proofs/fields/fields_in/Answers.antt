@@ -1,60 +1,81 @@
 -- `reading::fields::fields_in` meets its contract. Assumes nothing.
-use mathlib.Core.Path.{sym, ap, ◌∙◌}
+use mathlib.Core.Bool.{false}
+use mathlib.Core.Path.{sym, ◌∙◌}
 use native.Mathlib.Omega.{arith}
 use Rattle.std.proofs.Common.{Some, None}
-use Rattle.reading.specs.declared.fields.Fields.{Fields}
-use Rattle.reading.specs.Text.{pieces}
 use Rattle.reading.specs.Names.{unpadded_all}
-use Rattle.reading.proofs.Laws.Form.{add_none, add-again, add-first, left, left-unclosed, left-next, left_end}
+use Rattle.reading.proofs.Laws.Text.{places-first, places-end}
+use Rattle.reading.proofs.Laws.Form.{add_none, add-again, add-first, left-unclosed, left-next, left_end}
 use Rattle.reading.proofs.fields.fields_in.Goals as goal
 
-pub loop-i-init : goal.loop-i-init
-loop-i-init c = (
-  omega arith,
-  ap (λ (f : Fields). left (unpadded_all c.args.names.now) 0 f (pieces 41 c.args.s.now)) c.no_fields-f.ensures,
-)
+pub slice_bounds-read_piece-count : goal.slice_bounds-read_piece-count
+slice_bounds-read_piece-count c =
+    let l = c.loop-e in
+    let at = places-first 41 c.args.s.now _ l.i c.in-Some.e _ (omega arith) (sym l.invariant.1 ∙ c.in-Some.ensures.steps) in
+    omega (arith, at.0, at.1)
 
-pub returns-then-s-e : goal.returns-then-s-e
-returns-then-s-e c =
-    let l = c.loop-i in
-    sym (left-unclosed (unpadded_all c.args.names.now) l.next l.f c.args.s.now l.i (omega arith) (omega arith)) ∙ l.invariant.1
+pub slice_bounds-read_piece-start : goal.slice_bounds-read_piece-start
+slice_bounds-read_piece-start c =
+    let l = c.loop-e in
+    let at = places-first 41 c.args.s.now _ l.i c.in-Some.e _ (omega arith) (sym l.invariant.1 ∙ c.in-Some.ensures.steps) in
+    omega (arith, at.0, at.1)
+
+pub slice_bounds-read_piece-end : goal.slice_bounds-read_piece-end
+slice_bounds-read_piece-end c =
+    let l = c.loop-e in
+    let at = places-first 41 c.args.s.now _ l.i c.in-Some.e _ (omega arith) (sym l.invariant.1 ∙ c.in-Some.ensures.steps) in
+    omega (arith, at.0, at.1)
 
 pub returns-in_err-x : goal.returns-in_err-x
 returns-in_err-x c =
-    let l = c.loop-i in
+    let l = c.loop-e in
+    let at = places-first 41 c.args.s.now _ l.i c.in-Some.e _ (omega arith) (sym l.invariant.1 ∙ c.in-Some.ensures.steps) in
     c.from_residual.ensures
-    ∙ sym (left-next (unpadded_all c.args.names.now) l.next l.f c.args.s.now l.i c.place-e.result c.place-e.ensures.0 (omega arith)
+    ∙ sym (left-next (unpadded_all c.args.names.table.now) l.next l.f c.args.s.now l.i c.in-Some.e at.0 at.1
     None (sym c.in_err-x.was ∙ c.read_piece.ensures) None (sym (add_none l.f None (omega arith))))
-    ∙ l.invariant.1
+    ∙ l.invariant.2
 
-pub returns-then-c-ge26 : goal.returns-then-c-ge26
-returns-then-c-ge26 c =
-    let l = c.loop-i in
+pub returns-in_err-get : goal.returns-in_err-get
+returns-in_err-get c =
     let x = c.in_ok-x.x in
-    sym (left-next (unpadded_all c.args.names.now) l.next l.f c.args.s.now l.i c.place-e.result c.place-e.ensures.0 (omega arith)
-    (Some x) (sym c.in_ok-x.was ∙ c.read_piece.ensures) None (sym (add_none l.f (Some x) (omega arith))))
-    ∙ l.invariant.1
+    let l = c.loop-e in
+    let at = places-first 41 c.args.s.now _ l.i c.in-Some.e _ (omega arith) (sym l.invariant.1 ∙ c.in-Some.ensures.steps) in
+    c.from_residual-in_err-get.ensures
+    ∙ sym (left-next (unpadded_all c.args.names.table.now) l.next l.f c.args.s.now l.i c.in-Some.e at.0 at.1
+    (Some x) (sym c.in_ok-x.was ∙ c.read_piece.ensures) None (sym (add_none l.f (Some x) (omega (arith, c.in_err-get.ensures.lookup)))))
+    ∙ l.invariant.2
 
-pub returns-then-f-c : goal.returns-then-f-c
-returns-then-f-c c =
-    let l = c.loop-i in
+pub returns-then-branch : goal.returns-then-branch
+returns-then-branch c =
     let x = c.in_ok-x.x in
-    sym (left-next (unpadded_all c.args.names.now) l.next l.f c.args.s.now l.i c.place-e.result c.place-e.ensures.0 (omega arith)
-    (Some x) (sym c.in_ok-x.was ∙ c.read_piece.ensures) None (sym (add-again l.f (Some x) c.if-f-c.true)))
-    ∙ l.invariant.1
+    let seen = c.in_ok-get.ensures.lookup.3 in
+    let l = c.loop-e in
+    let at = places-first 41 c.args.s.now _ l.i c.in-Some.e _ (omega arith) (sym l.invariant.1 ∙ c.in-Some.ensures.steps) in
+    sym (left-next (unpadded_all c.args.names.table.now) l.next l.f c.args.s.now l.i c.in-Some.e at.0 at.1
+    (Some x) (sym c.in_ok-x.was ∙ c.read_piece.ensures) None (sym (add-again l.f (Some x) (sym (seen.1 false) ∙ c.if-branch.true))))
+    ∙ l.invariant.2
 
-pub loop-i-preserved : goal.loop-i-preserved
-loop-i-preserved c =
-    let l = c.loop-i in
-    let x = c.in_ok-x.x in (
-      omega arith,
-      sym
-          (left-next (unpadded_all c.args.names.now) l.next l.f c.args.s.now l.i c.place-e.result c.place-e.ensures.0 (omega arith)
-          (Some x) (sym c.in_ok-x.was ∙ c.read_piece.ensures) _ (sym (add-first l.f (Some x) (omega arith) c.if-f-c.false)))
-          ∙ l.invariant.1,
+pub loop-e-preserved : goal.loop-e-preserved
+loop-e-preserved c =
+    let l = c.loop-e in
+    let x = c.in_ok-x.x in
+    let seen = c.in_ok-get.ensures.lookup.3 in
+    let at = places-first 41 c.args.s.now _ l.i c.in-Some.e _ (omega arith) (sym l.invariant.1 ∙ c.in-Some.ensures.steps) in (
+      omega (arith, at.1),
+      at.2,
+      sym (left-next (unpadded_all c.args.names.table.now) l.next l.f c.args.s.now l.i c.in-Some.e at.0 at.1
+          (Some x) (sym c.in_ok-x.was ∙ c.read_piece.ensures) _ (sym (add-first l.f (Some x) (omega (arith, seen.0))
+          (sym (seen.1 false) ∙ c.if-branch.false))))
+          ∙ l.invariant.2,
     )
+
+pub returns-then-i-s : goal.returns-then-i-s
+returns-then-i-s c =
+    let l = c.loop-e in
+    let end = places-end 41 c.args.s.now _ l.i (omega arith) (sym l.invariant.1 ∙ c.in-None.ensures.steps.0) in
+    sym (left-unclosed (unpadded_all c.args.names.table.now) l.next l.f c.args.s.now l.i (omega arith) end) ∙ l.invariant.2
 
 pub returns : goal.returns
 returns c =
-    let l = c.loop-i in
-    sym (left_end (unpadded_all c.args.names.now) l.next l.f c.args.s.now l.i (omega arith)) ∙ l.invariant.1
+    let l = c.loop-e in
+    sym (left_end (unpadded_all c.args.names.table.now) l.next l.f c.args.s.now l.i (omega arith)) ∙ l.invariant.2

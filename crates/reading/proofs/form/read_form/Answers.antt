@@ -1,38 +1,47 @@
 -- `reading::form::read_form` meets its contract. Assumes nothing.
 use mathlib.Core.Path.{sym, ap, ◌∙◌}
+use Rattle.std.proofs.lemmas.List.{take_rest}
 use Rattle.reading.specs.Number.{read_number}
 use Rattle.reading.specs.Form.{read_fields, receive_line, number_line, settle_by}
-use Rattle.reading.proofs.Laws.Text.{rest_of}
+use Rattle.reading.proofs.Laws.Text.{same-is, behind-strip}
 use Rattle.reading.proofs.Laws.Form.{form-receive, form-settle, form-number}
 use Rattle.reading.proofs.form.read_form.Goals as goal
 
-pub returns-then-same : goal.returns-then-same
-returns-then-same c =
+pub returns-in_err-f : goal.returns-in_err-f
+returns-in_err-f c =
+    let t = c.args.t.now in
+    c.from_residual.ensures
+    ∙ ap receive_line (sym c.in_err-f.was ∙ c.read_fields.ensures)
+    ∙ form-receive t c.place-k.result c.place-k.ensures.0 (same-is _ c.as_slice.ensures c.eq.ensures c.if-eq.true)
+
+pub returns-then-eq : goal.returns-then-eq
+returns-then-eq c =
     let t = c.args.t.now in
     c.receive_line.ensures
-    ∙ ap receive_line c.read_fields.ensures
-    ∙ form-receive t c.place-k.result c.place-k.ensures.0 (sym c.same.ensures ∙ c.if-same.true)
+    ∙ ap receive_line (sym c.in_ok-f.was ∙ c.read_fields.ensures)
+    ∙ form-receive t c.place-k.result c.place-k.ensures.0 (same-is _ c.as_slice.ensures c.eq.ensures c.if-eq.true)
 
-pub returns-then-same-2 : goal.returns-then-same-2
-returns-then-same-2 c =
+pub returns-then-eq-2 : goal.returns-then-eq-2
+returns-then-eq-2 c =
     let t = c.args.t.now in
     c.read_settle.ensures
-    ∙ ap (settle_by read_fields) (rest_of t c.behind_space-b.result ∙ c.behind_space-b.ensures.0)
+    ∙ ap (settle_by read_fields)
+    (behind-strip 32 t _ _ _ _ c.place-k.ensures.0 c.unwrap_or-u.ensures (take_rest t _) c.strip_prefix.ensures.cases)
     ∙ form-settle t c.place-k.result c.place-k.ensures.0
-    (sym c.same.ensures ∙ c.if-same.false)
-    (sym c.same-2.ensures ∙ c.if-same-2.true)
+    (same-is _ c.as_slice.ensures c.eq.ensures c.if-eq.false)
+    (same-is _ c.as_slice-2.ensures c.eq-2.ensures c.if-eq-2.true)
 
 pub returns-in_err-n : goal.returns-in_err-n
 returns-in_err-n c =
     let t = c.args.t.now in
-    c.from_residual.ensures
+    c.from_residual-in_err-n.ensures
     ∙ ap (number_line _)
     (sym c.in_err-n.was
     ∙ c.read_number.ensures
-    ∙ ap read_number (rest_of t c.behind_space-b.result ∙ c.behind_space-b.ensures.0))
+    ∙ ap read_number (behind-strip 32 t _ _ _ _ c.place-k.ensures.0 c.unwrap_or-u.ensures (take_rest t _) c.strip_prefix.ensures.cases))
     ∙ form-number t c.place-k.result c.place-k.ensures.0
-    (sym c.same.ensures ∙ c.if-same.false)
-    (sym c.same-2.ensures ∙ c.if-same-2.false)
+    (same-is _ c.as_slice.ensures c.eq.ensures c.if-eq.false)
+    (same-is _ c.as_slice-2.ensures c.eq-2.ensures c.if-eq-2.false)
 
 pub returns : goal.returns
 returns c =
@@ -41,7 +50,7 @@ returns c =
     ∙ ap (number_line _)
     (sym c.in_ok-n.was
     ∙ c.read_number.ensures
-    ∙ ap read_number (rest_of t c.behind_space-b.result ∙ c.behind_space-b.ensures.0))
+    ∙ ap read_number (behind-strip 32 t _ _ _ _ c.place-k.ensures.0 c.unwrap_or-u.ensures (take_rest t _) c.strip_prefix.ensures.cases))
     ∙ form-number t c.place-k.result c.place-k.ensures.0
-    (sym c.same.ensures ∙ c.if-same.false)
-    (sym c.same-2.ensures ∙ c.if-same-2.false)
+    (same-is _ c.as_slice.ensures c.eq.ensures c.if-eq.false)
+    (same-is _ c.as_slice-2.ensures c.eq-2.ensures c.if-eq-2.false)

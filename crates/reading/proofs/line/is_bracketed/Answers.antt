@@ -1,16 +1,21 @@
 -- `reading::line::is_bracketed` meets its contract. Assumes nothing.
+use mathlib.Core.Path.{◌∙◌}
 use native.Mathlib.Omega.{arith}
-use Rattle.reading.proofs.Laws.Line.{brackets-short, brackets-long, brackets-open, brackets-close}
+use borrow.Author.Tests.{lt-leb}
+use Rattle.reading.proofs.Laws.Line.{brackets-short, brackets-long, brackets-open, brackets-close, brackets-both}
 use Rattle.reading.proofs.line.is_bracketed.Goals as goal
 
-pub returns-then-s-lt2 : goal.returns-then-s-lt2
-returns-then-s-lt2 c = brackets-short _ c.if-s-lt2.true
+pub returns-in-40 : goal.returns-in-40
+returns-in-40 c = brackets-both _ c.in-40.len_at_least (omega arith) (omega arith) (omega arith)
 
-pub returns-then-s-gt1024 : goal.returns-then-s-gt1024
-returns-then-s-gt1024 c = brackets-long _ (omega arith)
+pub returns-in_default : goal.returns-in_default
+returns-in_default c = brackets-short _ c.in_default.len_below
 
-pub returns-then-s-ne40 : goal.returns-then-s-ne40
-returns-then-s-ne40 c = brackets-open _ c.if-s-ne40.true
+pub returns-in_default-2 : goal.returns-in_default-2
+returns-in_default-2 c = brackets-close _ (omega arith)
 
-pub returns : goal.returns
-returns c = brackets-close _ (omega arith) (omega arith) c.if-s-ne40.false
+pub returns-in_default-3 : goal.returns-in_default-3
+returns-in_default-3 c = brackets-open _ (omega arith)
+
+pub returns-else-s-le1024 : goal.returns-else-s-le1024
+returns-else-s-le1024 c = lt-leb _ 1024 (omega arith) ∙ brackets-long _ (omega arith)

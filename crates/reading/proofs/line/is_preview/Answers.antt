@@ -8,5 +8,6 @@ pub returns-then-starts_with : goal.returns-then-starts_with
 returns-then-starts_with c =
     c.is_bracketed.ensures ∙ preview-brackets _ (sym (same-swapped _ _) ∙ sym c.starts_with.ensures.value ∙ c.if-starts_with.true)
 
-pub returns : goal.returns
-returns c = preview-word _ (sym (same-swapped _ _) ∙ sym c.starts_with.ensures.value ∙ c.if-starts_with.false)
+pub returns-else-starts_with : goal.returns-else-starts_with
+returns-else-starts_with c =
+    c.if-starts_with.false ∙ preview-word _ (sym (same-swapped _ _) ∙ sym c.starts_with.ensures.value ∙ c.if-starts_with.false)

@@ -1,22 +1,16 @@
 -- `reading::line::read_call` meets its contract. Assumes nothing.
 use mathlib.Core.Path.{sym, ◌∙◌}
-use native.Mathlib.Omega.{arith}
-use Rattle.reading.proofs.Laws.Line.{brackets-two, call_none, call-form}
+use Rattle.reading.proofs.Laws.Line.{brackets-short, call_none, call-form}
 use Rattle.reading.proofs.line.read_call.Goals as goal
 
-pub overflow_sub-e : goal.overflow_sub-e
-overflow_sub-e c = omega (arith, brackets-two _ (sym c.is_bracketed.ensures ∙ c.if-is_bracketed.true))
-
-pub slice_bounds-read_form-count : goal.slice_bounds-read_form-count
-slice_bounds-read_form-count c = omega (arith, brackets-two _ (sym c.is_bracketed.ensures ∙ c.if-is_bracketed.true))
-
-pub slice_bounds-read_form-start : goal.slice_bounds-read_form-start
-slice_bounds-read_form-start c = omega (arith, brackets-two _ (sym c.is_bracketed.ensures ∙ c.if-is_bracketed.true))
-
-pub returns-then-is_bracketed : goal.returns-then-is_bracketed
-returns-then-is_bracketed c =
+pub returns-in-len2-up : goal.returns-in-len2-up
+returns-in-len2-up c =
     c.read_form.ensures ∙ call-form _ (sym c.is_bracketed.ensures ∙ c.if-is_bracketed.true)
 
-pub returns : goal.returns
-returns c =
+pub returns-in_default : goal.returns-in_default
+returns-in_default c =
+    call_none _ (sym (brackets-short _ c.in_default.len_below))
+
+pub returns-in_default-2 : goal.returns-in_default-2
+returns-in_default-2 c =
     call_none _ (sym c.is_bracketed.ensures ∙ c.if-is_bracketed.false)

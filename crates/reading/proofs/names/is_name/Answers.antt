@@ -1,7 +1,7 @@
 -- `reading::names::is_name` meets its contract. Assumes nothing.
 use mathlib.Core.Path.{ap, ◌∙◌}
 use Rattle.reading.specs.Text.{same_bytes}
-use Rattle.reading.proofs.Laws.Text.{up_to-place}
+use Rattle.reading.proofs.Laws.Text.{same-pointwise, up_to-place}
 use Rattle.reading.proofs.Laws.Names.{unpadded-other}
 use Rattle.reading.proofs.names.is_name.Goals as goal
 
@@ -10,4 +10,4 @@ returns-then-name-s c = unpadded-other _ _ c.if-s-gt1.true c.if-name-s.true
 
 pub returns : goal.returns
 returns c =
-    c.same.ensures ∙ ap (same_bytes c.args.s.now) (up_to-place 32 _ c.place-k.result c.place-k.ensures.0)
+    c.eq.ensures ∙ same-pointwise _ _ ∙ ap (same_bytes c.args.s.now) (up_to-place 32 _ c.place-k.result c.place-k.ensures.0)

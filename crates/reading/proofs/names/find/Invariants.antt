@@ -1,9 +1,0 @@
--- Loops of `names::find`.
-use mathlib.Core.Path.{◌≡◌}
-use lib.ListN.{drop}
-use Rattle.reading.specs.Names.{column_from, column_of, from_column, unpadded_all}
-use Rattle.reading.proofs.names.find.Given as goal
-
-abbrev pub invariant-loop-c : goal.invariant-loop-c
-invariant-loop-c l =
-    column_from l.c (drop l.c (unpadded_all l.names)) l.s ≡ from_column l.from (column_of (unpadded_all l.names) l.s)

@@ -1,7 +1,0 @@
--- `vectors::units::ticks_for` meets its contract. Assumes nothing.
-use native.Mathlib.Nat.{mul-le-mul_right}
-use native.Mathlib.Omega.{arith}
-use Rattle.vectors.proofs.units.ticks_for.Goals as goal
-
-pub overflow_mul-result : goal.overflow_mul-result
-overflow_mul-result c = omega (arith, mul-le-mul_right c.args.x.0 c.requires.0.1)
