@@ -2,17 +2,19 @@
  * libjilghvani.a and libjilghvani.so). This file holds:
  *
  *   - the version,
- *   - the sizes, the places of the columns, and the layout of a plant record,
+ *   - the sizes, the places of the columns and of the figures, and the layout of a
+ *     plant record,
+ *   - the house set of figures,
  *   - the refusals and their texts,
  *   - the functions: the two on text, the six that write a call as a line, the
  *     calls by numbers, the one for a laboratory sheet, the two conversions by
  *     themselves, and the two for a solver's proposal. Above each stands who owns
  *     what, what is read and written, and what a refusal leaves.
  *
- * Memory. A record is an array of 52 uint64_t that the caller owns, and so are
- * vectors, told numbers, lines and buffers. There is no other state: the library
- * keeps nothing between calls, allocates nothing and holds no pointer after it
- * returns. Of an array it touches as many columns as its declaration names.
+ * Memory. A record is an array of 61 uint64_t that the caller owns, and so are
+ * vectors, figures, told numbers, lines and buffers. There is no other state: the
+ * library keeps nothing between calls, allocates nothing and holds no pointer after
+ * it returns. Of an array it touches as many numbers as its declaration names.
  *
  * Threads. Calls may run at the same time in any threads, as long as none of
  * them is lent for writing what another is lent. So calls that change one record
@@ -20,26 +22,42 @@
  *
  * Overlap. What a call writes must not overlap anything else that is lent to the
  * same call. What it only reads may: jilghvani_gap takes the digester's columns
- * of its own record as d, and jilghvani_settle does not.
+ * of its own record as d, and jilghvani_settle does not; jilghvani_asm_to_adm
+ * takes the figures of a record where they stand, and jilghvani_make does not take
+ * those of the record that it makes.
  *
- * Pointers. Records, vectors and told numbers are aligned as uint64_t is, the
- * values of a sheet as float is; its kinds, lines and buffers stand anywhere. No pointer may be null, except that of a line or a
- * buffer whose length is 0.
+ * Pointers. Records, vectors, figures and told numbers are aligned as uint64_t is,
+ * the values of a sheet as float is; its kinds, lines and buffers stand anywhere.
+ * No pointer may be null, except that of a line or a buffer whose length is 0.
  *
  * Refusals. A function by numbers gives the refusal's number, or 0 where it is
  * accepted. Its tests run in the order that is given above it, and the first
  * that applies is told. A refused call leaves the record as it was, and zeros in
- * all that it tells or hands out. What is told or handed out is always written
- * and never read, so that it needs no values before the call.
+ * all that it tells or hands out; jilghvani_make alone writes a record where it is
+ * refused, one of the house set. What is told or handed out is always written and
+ * never read, so that it needs no values before the call.
  *
  * Counts. Every number is a whole count; a vector is a mass and no
- * concentration. Ticks go up to 10^16, past 2^53, so that a double does not hold
- * each of them; those of COD, oxygen and millimoles, up to 10^12, it does. Keep
- * counts in integers; who has grams hands them over as a sheet
- * (jilghvani_sheet). All that an accepted call takes or gives is below 10^17,
- * so that a signed integer of 64 bits holds it as well.
+ * concentration. A column's ticks go up to 10^16, past 2^53, so that a double does
+ * not hold each of them; its COD, oxygen and millimoles, up to 10^12, it does. Keep
+ * counts in integers; who has grams hands them over as a sheet (jilghvani_sheet).
  *
- * The columns of a record stand in this order (mg: COD and oxygen in mg; ticks:
+ * All that an accepted call by numbers takes or gives is at most 2.7 * 10^17,
+ * whatever the figures are, so that a signed integer of 64 bits holds it as well.
+ * The greatest are those of nitrogen, with every figure 10000 but ixe in the third
+ * row and ni in the fourth, which are 0 there:
+ *
+ *    TKN of jilghvani_totals               2.7 * 10^17 ticks: 0.7 * 10^17 in each
+ *                                          ASM1 tank, 1.3 * 10^17 in the digester
+ *    TKN and sin of jilghvani_gap          1.2 * 10^17
+ *    xnd of jilghvani_adm_to_asm           10^17
+ *    sin of jilghvani_asm_to_adm           0.7 * 10^17
+ *    the ticks of jilghvani_sheet          0.4 * 10^17
+ *
+ * All else in ticks is at most 0.3 * 10^17, and all in mg or mmol at most
+ * 3.6 * 10^13 (the COD of jilghvani_totals).
+ *
+ * The numbers of a record stand in this order (mg: COD and oxygen in mg; ticks:
  * 0.0001 mg N; mmol: millimoles):
  *
  *    sludge tank (ASM1)
@@ -56,9 +74,33 @@
  *     39 si mg    40 ss mg    41 xi mg    42 xs mg    43 xbh mg   44 xba mg
  *     45 xp mg    46 so mg    47 sno ticks 48 snh ticks 49 snd ticks
  *     50 xnd ticks 51 salk mmol
+ *    figures: ticks of nitrogen in a mg of COD
+ *     52 ixb biomass, 53 ixe inerts (ASM1); 54 nxc composites, 55 ni inerts,
+ *     56 naa amino acids and protein, 57 nbac degraders (digester)
+ *    figures: parts in ten thousand
+ *     58 fxi inerts that stay inert in a feed; 59 fch carbohydrate and 60 fli
+ *     lipid, which share what composites leave as fch to fli
  *
- * A fresh record is all zero. Ceilings for one column: 10^12 for mg and mmol,
- * 10^16 for ticks. A record with a column above its ceiling is refused (1).
+ * Ceilings for one column: 10^12 for mg and mmol, 10^16 for ticks. A record with a
+ * column above its ceiling is refused (1).
+ *
+ * Figures. A set of figures is permitted where each is 0 to 10000, nxc and naa are
+ * at least 1, and fch + fli is at least 1. They are chosen when the record is made
+ * (jilghvani_make; jilghvani_fresh takes the house set), and no call changes them.
+ * A host does not change them either: all that the record holds is counted by them.
+ * A record whose figures are no permitted set is refused (15, before 1).
+ *
+ * A fresh record has zeros in its 52 columns and a permitted set behind them. So 61
+ * zeros are no fresh record: a call that reads them is refused (15).
+ *
+ * Versions. Before 0.12.0 a record was the 52 columns alone. A host that was
+ * compiled with an earlier header lends 52 numbers to functions that now write 61,
+ * so it has to be compiled anew, with records of JILGHVANI_RECORD numbers, each
+ * made by jilghvani_fresh or jilghvani_make. JILGHVANI_COLUMNS, which was a
+ * record's length, is gone, so that none is 52 long by it. While the version's first
+ * number is 0, the shared library's soname has the second one too, as
+ * libjilghvani.so.0.12, so that the loader does not start a host with a library that
+ * it was not linked for. The archive has no such guard.
  */
 #ifndef JILGHVANI_H
 #define JILGHVANI_H
@@ -71,21 +113,24 @@ extern "C" {
 #endif
 
 /* The version of this header, and its three numbers. */
-#define JILGHVANI_VERSION "0.11.0"
+#define JILGHVANI_VERSION "0.12.0"
 #define JILGHVANI_VERSION_MAJOR 0
-#define JILGHVANI_VERSION_MINOR 11
+#define JILGHVANI_VERSION_MINOR 12
 #define JILGHVANI_VERSION_PATCH 0
 
-/* Sizes, and the places of columns: record[JILGHVANI_DIGESTER_AT +
- * JILGHVANI_DIGESTER_SIN] is the digester's sin. All are of one type, because
- * C++ from 2020 on does not want sums of two. */
+/* Sizes, and the places of columns and figures: record[JILGHVANI_DIGESTER_AT +
+ * JILGHVANI_DIGESTER_SIN] is the digester's sin, and record[JILGHVANI_FIGURES_AT +
+ * JILGHVANI_FIGURE_IXB] the record's ixb. All are of one type, because C++ from
+ * 2020 on does not want sums of two. */
 enum {
     JILGHVANI_ASM1 = 13,      /* columns of an ASM1 vector */
     JILGHVANI_DIGESTER = 26,  /* columns of a digester vector */
-    JILGHVANI_SLUDGE_AT = 0,  /* where each tank begins in a record */
+    JILGHVANI_FIGURES = 9,    /* figures of a set */
+    JILGHVANI_RECORD = 61,    /* numbers of a record: 52 columns and the figures */
+    JILGHVANI_SLUDGE_AT = 0,  /* where each tank begins in a record, */
     JILGHVANI_DIGESTER_AT = 13,
     JILGHVANI_REJECT_AT = 39,
-    JILGHVANI_COLUMNS = 52,   /* columns of a record */
+    JILGHVANI_FIGURES_AT = 52, /* and the figures, right behind the columns */
     JILGHVANI_BUFFER = 512,   /* the shortest buffer for an answer or a held line */
     JILGHVANI_LINE_BUFFER = 1025, /* the shortest buffer for a call's line */
     JILGHVANI_LINE = 1024,    /* the longest line that is read; no form is longer
@@ -138,7 +183,24 @@ enum {
     JILGHVANI_DIGESTER_SIN = 22,  /* inorganic nitrogen, ticks */
     JILGHVANI_DIGESTER_SIC = 23,  /* inorganic carbon, mmol */
     JILGHVANI_DIGESTER_CO = 24,   /* oxygen carried through, mg */
-    JILGHVANI_DIGESTER_CN = 25    /* nitrate carried through, ticks */
+    JILGHVANI_DIGESTER_CN = 25,   /* nitrate carried through, ticks */
+
+    /* the figures of a set: nitrogen in ticks for a mg of COD, */
+    JILGHVANI_FIGURE_IXB = 0,  /* of biomass (ASM1) */
+    JILGHVANI_FIGURE_IXE = 1,  /* of inerts (ASM1) */
+    JILGHVANI_FIGURE_NXC = 2,  /* of composites */
+    JILGHVANI_FIGURE_NI = 3,   /* of inerts (digester) */
+    JILGHVANI_FIGURE_NAA = 4,  /* of amino acids and protein */
+    JILGHVANI_FIGURE_NBAC = 5, /* of degraders */
+    /* and parts in ten thousand */
+    JILGHVANI_FIGURE_FXI = 6,  /* of inerts that stay inert */
+    JILGHVANI_FIGURE_FCH = 7,  /* of carbohydrate */
+    JILGHVANI_FIGURE_FLI = 8   /* of lipid */
+};
+
+/* The house set, in the order of the places above. */
+static const uint64_t jilghvani_house[JILGHVANI_FIGURES] = {
+    880, 880, 280, 280, 980, 875, 8000, 2000, 2500,
 };
 
 /* What a call is sent away for; an answer in text gives the number as "(no N)". */
@@ -157,7 +219,8 @@ enum jilghvani_refusal {
     JILGHVANI_NO_FORM = 11,
     JILGHVANI_BUFFER_SHORT = 12,
     JILGHVANI_VALUE_NO_AMOUNT = 13,
-    JILGHVANI_VALUE_ABOVE_CEILING = 14
+    JILGHVANI_VALUE_ABOVE_CEILING = 14,
+    JILGHVANI_FIGURES_NOT_PERMITTED = 15
 };
 
 /* The text of a refusal's number: a constant string, for any number, that nobody
@@ -195,6 +258,8 @@ static inline const char *jilghvani_refusal_text(uint64_t refusal)
         return "a value or limit is negative, infinite or no number, or its kind is none";
     case JILGHVANI_VALUE_ABOVE_CEILING:
         return "a value's or limit's count is above its column's ceiling";
+    case JILGHVANI_FIGURES_NOT_PERMITTED:
+        return "a figure is above 10000, or nxc, naa or fch + fli is 0";
     default:
         return "no refusal has this number";
     }
@@ -206,8 +271,9 @@ static inline const char *jilghvani_refusal_text(uint64_t refusal)
  * its answer, as "(ok feed burnt 0 oxygen 0 nitrate 0 warn 0)" or "(no 2)". A
  * preview, as "(preview (feed 1000))", writes the same answer and changes nothing.
  *
- * record    the caller's 52 columns, read and written; changed by an accepted
- *           call only. A refused call and a preview leave every column as it was.
+ * record    the caller's 61 numbers, read and written; columns are changed by an
+ *           accepted call only. A refused call and a preview leave every number as
+ *           it was.
  * line      line_len bytes that the caller owns, without the newline; they are
  *           read and never written. They need no ending zero. Fields stand in
  *           the order of the columns, as "(receive (ss 10) (xs 30))"; in
@@ -219,20 +285,20 @@ static inline const char *jilghvani_refusal_text(uint64_t refusal)
  * Record, line and buffer must not overlap. Gives the number of answer bytes.
  * Under refusal 12, buf_len below 512, it gives 0 and leaves record and buffer
  * as they were. Refusals: 12, 11, then those of the call. */
-size_t jilghvani_line(uint64_t record[JILGHVANI_COLUMNS],
+size_t jilghvani_line(uint64_t record[JILGHVANI_RECORD],
                       const uint8_t *line, size_t line_len,
                       uint8_t *buf, size_t buf_len);
 
 /* Writes the held line of a record, as "(held cod 0 tkn 0 oxygen 0 nitrate 0)":
- * what the three tanks hold together; or "(no 1)" for a record with a column
- * above its ceiling.
+ * what the three tanks hold together; or "(no 15)" for a record whose figures are
+ * no permitted set, "(no 1)" for one with a column above its ceiling.
  *
- * record    the caller's 52 columns; read and never written.
+ * record    the caller's 61 numbers; read and never written.
  * buf       as in jilghvani_line.
  *
  * Record and buffer must not overlap. Gives the number of bytes written; 0 under
- * refusal 12, with the buffer as it was. Refusals: 12, 1. */
-size_t jilghvani_held(const uint64_t record[JILGHVANI_COLUMNS],
+ * refusal 12, with the buffer as it was. Refusals: 12, 15, 1. */
+size_t jilghvani_held(const uint64_t record[JILGHVANI_RECORD],
                       uint8_t *buf, size_t buf_len);
 
 /* ---- Calls as lines ---- */
@@ -272,100 +338,113 @@ size_t jilghvani_write_recycle(uint64_t k,
 
 /* ---- The calls by numbers ---- */
 
-/* Makes a record fresh: every column zero.
+/* Makes a fresh record of the house set: every column zero, and jilghvani_house
+ * behind them.
  *
- * record    52 columns that the caller owns; all are written, none is read.
+ * record    61 numbers that the caller owns; all are written, none is read.
  *
  * It is never refused. */
-void jilghvani_fresh(uint64_t record[JILGHVANI_COLUMNS]);
+void jilghvani_fresh(uint64_t record[JILGHVANI_RECORD]);
+
+/* Makes a fresh record of nine figures of one's own: every column zero, and the
+ * figures behind them.
+ *
+ * record    61 numbers that the caller owns; all are written, none is read.
+ * figures   9 numbers that the caller owns, in the order ixb ixe nxc ni naa nbac fxi
+ *           fch fli, any numbers; read and never written.
+ *
+ * Record and figures must not overlap. Gives 0 or the refusal: 15 where the figures
+ * are no permitted set; then the record is a fresh one of the house set. */
+uint64_t jilghvani_make(uint64_t record[JILGHVANI_RECORD],
+                        const uint64_t figures[JILGHVANI_FIGURES]);
 
 /* Receive: adds an ASM1 vector to the sludge tank.
  *
- * record    the caller's 52 columns, read and written; the sludge tank is changed
- *           where the call is accepted. A refused one leaves every column as it
+ * record    the caller's 61 numbers, read and written; the sludge tank is changed
+ *           where the call is accepted. A refused one leaves every number as it
  *           was.
  * v         13 columns that the caller owns; read and never written.
  *
- * Record and v must not overlap. Gives 0 or the refusal: 1, 3, 10. */
-uint64_t jilghvani_receive(uint64_t record[JILGHVANI_COLUMNS],
+ * Record and v must not overlap. Gives 0 or the refusal: 15, 1, 3, 10. */
+uint64_t jilghvani_receive(uint64_t record[JILGHVANI_RECORD],
                            const uint64_t v[JILGHVANI_ASM1]);
 
 /* Feed k: draws k thousandths of the sludge tank, converts them and adds them to
  * the digester.
  *
- * record    the caller's 52 columns, read and written; sludge and digester are
- *           changed where the call is accepted. A refused one leaves every column
+ * record    the caller's 61 numbers, read and written; sludge and digester are
+ *           changed where the call is accepted. A refused one leaves every number
  *           as it was.
  * k         the thousandths to draw, 1 to 1000.
  * told      four numbers that the caller owns, all written: COD burnt, oxygen
  *           reduced, nitrate reduced, warn (0 or 1); four zeros where the call is
  *           refused.
  *
- * Record and told must not overlap. Gives 0 or the refusal: 1, 2, 4, 6, 10. */
-uint64_t jilghvani_feed(uint64_t record[JILGHVANI_COLUMNS], uint64_t k,
+ * Record and told must not overlap. Gives 0 or the refusal: 15, 1, 2, 4, 6, 10. */
+uint64_t jilghvani_feed(uint64_t record[JILGHVANI_RECORD], uint64_t k,
                         uint64_t told[4]);
 
 /* Settle: d takes the digester's place where COD of the digester = COD of d + gas,
  * TKN is equal, and co and cn are equal; sic is free. jilghvani_close makes such
  * a d and its gas from what a solver proposes.
  *
- * record    the caller's 52 columns, read and written; the digester is replaced
- *           where the call is accepted. A refused one leaves every column as it
+ * record    the caller's 61 numbers, read and written; the digester is replaced
+ *           where the call is accepted. A refused one leaves every number as it
  *           was.
  * gas       the COD that left as gas, mg; any number.
  * d         26 columns that the caller owns; read and never written.
  *
- * Record and d must not overlap. Gives 0 or the refusal: 1, 3, 7, 8, 9. */
-uint64_t jilghvani_settle(uint64_t record[JILGHVANI_COLUMNS], uint64_t gas,
+ * Record and d must not overlap. Gives 0 or the refusal: 15, 1, 3, 7, 8, 9. */
+uint64_t jilghvani_settle(uint64_t record[JILGHVANI_RECORD], uint64_t gas,
                           const uint64_t d[JILGHVANI_DIGESTER]);
 
 /* Return k: draws k thousandths of the digester, converts them and adds them to
  * the reject tank.
  *
- * record    the caller's 52 columns, read and written; digester and reject are
- *           changed where the call is accepted. A refused one leaves every column
+ * record    the caller's 61 numbers, read and written; digester and reject are
+ *           changed where the call is accepted. A refused one leaves every number
  *           as it was.
  * k         the thousandths to draw, 1 to 1000.
  * told      one number that the caller owns, written: COD stripped, 0 where the
  *           call is refused.
  *
- * Record and told must not overlap. Gives 0 or the refusal: 1, 2, 5, 10. */
-uint64_t jilghvani_return(uint64_t record[JILGHVANI_COLUMNS], uint64_t k,
+ * Record and told must not overlap. Gives 0 or the refusal: 15, 1, 2, 5, 10. */
+uint64_t jilghvani_return(uint64_t record[JILGHVANI_RECORD], uint64_t k,
                           uint64_t told[1]);
 
 /* Release k: draws k thousandths of the reject tank and hands them out.
  *
- * record    the caller's 52 columns, read and written; the reject tank is changed
- *           where the call is accepted. A refused one leaves every column as it
+ * record    the caller's 61 numbers, read and written; the reject tank is changed
+ *           where the call is accepted. A refused one leaves every number as it
  *           was.
  * k         the thousandths to draw, 1 to 1000.
  * v         13 columns that the caller owns, all written: the ASM1 vector that is
  *           handed out, zeros where the call is refused.
  *
- * Record and v must not overlap. Gives 0 or the refusal: 1, 2. */
-uint64_t jilghvani_release(uint64_t record[JILGHVANI_COLUMNS], uint64_t k,
+ * Record and v must not overlap. Gives 0 or the refusal: 15, 1, 2. */
+uint64_t jilghvani_release(uint64_t record[JILGHVANI_RECORD], uint64_t k,
                            uint64_t v[JILGHVANI_ASM1]);
 
 /* Recycle k: draws k thousandths of the reject tank and adds them to the sludge
  * tank, column by column. It converts nothing and tells nothing, and what the
  * three tanks hold together stays the same.
  *
- * record    the caller's 52 columns, read and written; reject and sludge are
- *           changed where the call is accepted. A refused one leaves every column
+ * record    the caller's 61 numbers, read and written; reject and sludge are
+ *           changed where the call is accepted. A refused one leaves every number
  *           as it was.
  * k         the thousandths to draw, 1 to 1000.
  *
- * Gives 0 or the refusal: 1, 2, 10. */
-uint64_t jilghvani_recycle(uint64_t record[JILGHVANI_COLUMNS], uint64_t k);
+ * Gives 0 or the refusal: 15, 1, 2, 10. */
+uint64_t jilghvani_recycle(uint64_t record[JILGHVANI_RECORD], uint64_t k);
 
 /* Totals: what the three tanks hold together, as in the held line.
  *
- * record    the caller's 52 columns; read and never written.
+ * record    the caller's 61 numbers; read and never written.
  * told      four numbers that the caller owns, all written: COD (mg), TKN (ticks),
  *           oxygen (mg), nitrate (ticks); four zeros where the call is refused.
  *
- * Record and told must not overlap. Gives 0 or the refusal: 1. */
-uint64_t jilghvani_totals(const uint64_t record[JILGHVANI_COLUMNS],
+ * Record and told must not overlap. Gives 0 or the refusal: 15, 1. */
+uint64_t jilghvani_totals(const uint64_t record[JILGHVANI_RECORD],
                           uint64_t told[4]);
 
 /* ---- A laboratory sheet ---- */
@@ -378,8 +457,8 @@ uint64_t jilghvani_totals(const uint64_t record[JILGHVANI_COLUMNS],
  * entry that was not sampled counts as zero, and how many there are is told.
  * Minus zero counts as zero.
  *
- * record    the caller's 52 columns, read and written; the sludge tank is changed
- *           where the call is accepted. A refused one leaves every column as it
+ * record    the caller's 61 numbers, read and written; the sludge tank is changed
+ *           where the call is accepted. A refused one leaves every number as it
  *           was.
  * kinds     13 numbers that the caller owns, read and never written: 0, 1 or 2
  *           (JILGHVANI_MEASURED, _BELOW_LIMIT, _NOT_SAMPLED). Any other gets
@@ -393,9 +472,9 @@ uint64_t jilghvani_totals(const uint64_t record[JILGHVANI_COLUMNS],
  *           the call is refused.
  *
  * Record and told must not overlap each other, kinds or values. Gives 0 or the
- * refusal: 13 or 14, that of the first column that is bad, then 1, 10. Of one
+ * refusal: 13 or 14, that of the first column that is bad, then 15, 1, 10. Of one
  * column 13 comes before 14. */
-uint64_t jilghvani_sheet(uint64_t record[JILGHVANI_COLUMNS],
+uint64_t jilghvani_sheet(uint64_t record[JILGHVANI_RECORD],
                          const uint8_t kinds[JILGHVANI_ASM1],
                          const float values[JILGHVANI_ASM1], uint64_t told[4]);
 
@@ -404,6 +483,9 @@ uint64_t jilghvani_sheet(uint64_t record[JILGHVANI_COLUMNS],
 /* The feed's conversion of a whole vector, ASM1 to digester, without record and
  * without draw, as asm2adm of BSM2 is called.
  *
+ * figures   9 numbers that the caller owns; read and never written:
+ *           jilghvani_house, a set of one's own, or those of a record where they
+ *           stand (record + JILGHVANI_FIGURES_AT).
  * v         13 columns that the caller owns; read and never written.
  * d         26 columns that the caller owns, all written: the digester vector,
  *           zeros where the call is refused. A column may be above its ceiling;
@@ -412,13 +494,16 @@ uint64_t jilghvani_sheet(uint64_t record[JILGHVANI_COLUMNS],
  *           reduced, nitrate reduced, warn (0 or 1); four zeros where the call is
  *           refused.
  *
- * v, d and told must not overlap. Gives 0 or the refusal: 3, 4, 6. */
-uint64_t jilghvani_asm_to_adm(const uint64_t v[JILGHVANI_ASM1],
+ * d and told must not overlap each other, figures or v. Gives 0 or the refusal: 15,
+ * 3, 4, 6. */
+uint64_t jilghvani_asm_to_adm(const uint64_t figures[JILGHVANI_FIGURES],
+                              const uint64_t v[JILGHVANI_ASM1],
                               uint64_t d[JILGHVANI_DIGESTER], uint64_t told[4]);
 
 /* The return's conversion of a whole vector, digester to ASM1, without record and
  * without draw, as adm2asm of BSM2 is called.
  *
+ * figures   9 numbers that the caller owns; read and never written, as above.
  * d         26 columns that the caller owns; read and never written.
  * v         13 columns that the caller owns, all written: the ASM1 vector, zeros
  *           where the call is refused. A column may be above its ceiling, as
@@ -426,8 +511,10 @@ uint64_t jilghvani_asm_to_adm(const uint64_t v[JILGHVANI_ASM1],
  * told      one number that the caller owns, written: COD stripped, 0 where the
  *           call is refused.
  *
- * d, v and told must not overlap. Gives 0 or the refusal: 3, 5. */
-uint64_t jilghvani_adm_to_asm(const uint64_t d[JILGHVANI_DIGESTER],
+ * v and told must not overlap each other, figures or d. Gives 0 or the refusal: 15,
+ * 3, 5. */
+uint64_t jilghvani_adm_to_asm(const uint64_t figures[JILGHVANI_FIGURES],
+                              const uint64_t d[JILGHVANI_DIGESTER],
                               uint64_t v[JILGHVANI_ASM1], uint64_t told[1]);
 
 /* ---- A solver's proposal ---- */
@@ -436,30 +523,30 @@ uint64_t jilghvani_adm_to_asm(const uint64_t d[JILGHVANI_DIGESTER],
  * accepts, and tells the gas. With old for the record's digester:
  *
  *   gas       = COD of old - COD of d
- *   d's sin   = TKN of old - TKN of all other columns of d
+ *   d's sin   = TKN of old - TKN of all other columns of d, by the record's figures
  *   d's co, cn as in old; all other columns of d as proposed
  *
  * Where it is accepted, jilghvani_settle(record, told[0], d) is accepted too.
  *
- * record    the caller's 52 columns; read and never written.
+ * record    the caller's 61 numbers; read and never written.
  * d         26 columns that the caller owns, read and written: the proposal, and
  *           where the call is accepted what closes. A refused call leaves every
  *           column of d as it was.
  * told      one number that the caller owns, written: the gas, mg COD, 0 where
  *           the call is refused.
  *
- * Record, d and told must not overlap. Gives 0 or the refusal: 1; 3 where a column
- * of d (sin, co and cn too, although they are replaced), or the sin that closes,
- * is above its ceiling; 7 where COD of d is above COD of old; 8 where the TKN of
- * all other columns of d is above TKN of old. Under 7, 8, and 3 for the sin that
- * closes, no gas, sin, co and cn would do: the other columns must change, and
+ * Record, d and told must not overlap. Gives 0 or the refusal: 15; 1; 3 where a
+ * column of d (sin, co and cn too, although they are replaced), or the sin that
+ * closes, is above its ceiling; 7 where COD of d is above COD of old; 8 where the
+ * TKN of all other columns of d is above TKN of old. Under 7, 8, and 3 for the sin
+ * that closes, no gas, sin, co and cn would do: the other columns must change, and
  * jilghvani_gap tells by how much. */
-uint64_t jilghvani_close(const uint64_t record[JILGHVANI_COLUMNS],
+uint64_t jilghvani_close(const uint64_t record[JILGHVANI_RECORD],
                          uint64_t d[JILGHVANI_DIGESTER], uint64_t told[1]);
 
 /* Gap: how far a proposal is from one that jilghvani_close accepts.
  *
- * record    the caller's 52 columns; read and never written.
+ * record    the caller's 61 numbers; read and never written.
  * d         26 columns that the caller owns; read and never written.
  * told      three numbers that the caller owns, all written, each 0 where nothing
  *           is amiss: COD of d above COD of the digester (mg); TKN of d's columns
@@ -467,9 +554,9 @@ uint64_t jilghvani_close(const uint64_t record[JILGHVANI_COLUMNS],
  *           above 10^16 (ticks). Three zeros where the call is refused.
  *
  * Told must not overlap record or d; record and d may overlap. Gives 0 or the
- * refusal: 1, 3 (a column of d). Where it gives 0 and tells three zeros,
+ * refusal: 15, 1, 3 (a column of d). Where it gives 0 and tells three zeros,
  * jilghvani_close accepts d, and nowhere else. */
-uint64_t jilghvani_gap(const uint64_t record[JILGHVANI_COLUMNS],
+uint64_t jilghvani_gap(const uint64_t record[JILGHVANI_RECORD],
                        const uint64_t d[JILGHVANI_DIGESTER], uint64_t told[3]);
 
 #ifdef __cplusplus

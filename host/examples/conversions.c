@@ -1,7 +1,7 @@
 /* An example host: the two conversions by themselves, vector to vector, as
- * asm2adm and adm2asm of BSM2 are called. Each runs on a plant of document 01 and
- * on a vector that it refuses. What goes in and what comes out is printed by the
- * columns' names; columns that are zero are left out. */
+ * asm2adm and adm2asm of BSM2 are called, with the house set of figures. Each runs
+ * on a plant of document 01 and on a vector that it refuses. What goes in and what
+ * comes out is printed by the columns' names; columns that are zero are left out. */
 #include "printing.h"
 
 /* Prints what was converted and whether it was refused. */
@@ -14,22 +14,12 @@ static void print_outcome(const char *plant, const char *conversion, uint64_t re
         printf("refused with %" PRIu64 ", %s\n", refusal, jilghvani_refusal_text(refusal));
 }
 
-/* Prints those of n columns that are not zero. */
-static void print_vector(const char *title, const char *const names[], const uint64_t columns[], int n)
-{
-    printf("  %s", title);
-    for (int i = 0; i < n; i++)
-        if (columns[i] != 0)
-            print_column(names[i], columns[i]);
-    putchar('\n');
-}
-
 /* Converts an ASM1 vector and prints both sides. */
 static void to_digester(const char *plant, const uint64_t v[JILGHVANI_ASM1])
 {
     uint64_t d[JILGHVANI_DIGESTER], told[4];
 
-    print_outcome(plant, "asm_to_adm", jilghvani_asm_to_adm(v, d, told));
+    print_outcome(plant, "asm_to_adm", jilghvani_asm_to_adm(jilghvani_house, v, d, told));
     print_vector("ASM1", asm1_names, v, JILGHVANI_ASM1);
     print_vector("digester", digester_names, d, JILGHVANI_DIGESTER);
     printf("  burnt %" PRIu64 " oxygen %" PRIu64 " nitrate %" PRIu64 " warn %" PRIu64 "\n",
@@ -41,7 +31,7 @@ static void to_asm1(const char *plant, const uint64_t d[JILGHVANI_DIGESTER])
 {
     uint64_t v[JILGHVANI_ASM1], stripped;
 
-    print_outcome(plant, "adm_to_asm", jilghvani_adm_to_asm(d, v, &stripped));
+    print_outcome(plant, "adm_to_asm", jilghvani_adm_to_asm(jilghvani_house, d, v, &stripped));
     print_vector("digester", digester_names, d, JILGHVANI_DIGESTER);
     print_vector("ASM1", asm1_names, v, JILGHVANI_ASM1);
     printf("  stripped %" PRIu64 "\n", stripped);

@@ -59,21 +59,22 @@ static const char *const quantity_names[QUANTITIES] = {"COD", "TKN", "oxygen", "
  * released, and of what was let go (COD burnt, gas and stripped; oxygen and
  * nitrate reduced). These days' sums stay far below 2^64. */
 struct works {
-    uint64_t record[JILGHVANI_COLUMNS];
+    uint64_t record[JILGHVANI_RECORD];
     uint64_t received[QUANTITIES];
     uint64_t released[QUANTITIES];
     uint64_t let_go[QUANTITIES];
 };
 
-/* Adds an ASM1 vector to sums; 880 ticks of nitrogen are in a mg COD of biomass
- * and of inerts. */
-static void add_vector(uint64_t sums[QUANTITIES], const uint64_t v[JILGHVANI_ASM1])
+/* Adds an ASM1 vector to sums; the figures, those of the works' record, tell how
+ * many ticks of nitrogen are in a mg COD of biomass and of inerts. */
+static void add_vector(uint64_t sums[QUANTITIES], const uint64_t v[JILGHVANI_ASM1],
+                       const uint64_t figures[JILGHVANI_FIGURES])
 {
     for (int i = JILGHVANI_ASM1_SI; i <= JILGHVANI_ASM1_XP; i++)
         sums[COD] += v[i];
     sums[TKN] += v[JILGHVANI_ASM1_SNH] + v[JILGHVANI_ASM1_SND] + v[JILGHVANI_ASM1_XND]
-                 + 880 * (v[JILGHVANI_ASM1_XBH] + v[JILGHVANI_ASM1_XBA])
-                 + 880 * (v[JILGHVANI_ASM1_XI] + v[JILGHVANI_ASM1_XP]);
+                 + figures[JILGHVANI_FIGURE_IXB] * (v[JILGHVANI_ASM1_XBH] + v[JILGHVANI_ASM1_XBA])
+                 + figures[JILGHVANI_FIGURE_IXE] * (v[JILGHVANI_ASM1_XI] + v[JILGHVANI_ASM1_XP]);
     sums[OXYGEN] += v[JILGHVANI_ASM1_SO];
     sums[NITRATE] += v[JILGHVANI_ASM1_SNO];
 }
@@ -166,7 +167,7 @@ static uint64_t floor_to_counts(double x)
  * its own sin, co and cn in the proposal's place. Rounding takes none of them
  * above its ceiling, because 10^16 is a double. Nitrogen that proteins and
  * biomass free or bind is left to close as well. */
-static uint64_t propose(const uint64_t record[JILGHVANI_COLUMNS], int steps,
+static uint64_t propose(const uint64_t record[JILGHVANI_RECORD], int steps,
                         uint64_t d[JILGHVANI_DIGESTER])
 {
     double x[SOLVED] = {0};
@@ -199,7 +200,7 @@ static int receive(struct works *w)
     make_sludge(v);
     if (!accepted("receive", jilghvani_receive(w->record, v)))
         return 0;
-    add_vector(w->received, v);
+    add_vector(w->received, v, w->record + JILGHVANI_FIGURES_AT);
     return 1;
 }
 
@@ -252,7 +253,7 @@ static int release(struct works *w)
 
     if (!accepted("release", jilghvani_release(w->record, RELEASED, v)))
         return 0;
-    add_vector(w->released, v);
+    add_vector(w->released, v, w->record + JILGHVANI_FIGURES_AT);
     return 1;
 }
 

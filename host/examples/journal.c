@@ -27,7 +27,7 @@ static size_t room(const struct journal *j)
 
 /* ---- Calls by numbers, each with its line in the journal ---- */
 
-static void receive(struct journal *j, uint64_t record[JILGHVANI_COLUMNS],
+static void receive(struct journal *j, uint64_t record[JILGHVANI_RECORD],
                     const uint64_t v[JILGHVANI_ASM1])
 {
     j->length += jilghvani_write_receive(v, 0, next(j), room(j));
@@ -35,7 +35,7 @@ static void receive(struct journal *j, uint64_t record[JILGHVANI_COLUMNS],
 }
 
 /* Feeds k thousandths; a preview of it stands in the journal too. */
-static void feed(struct journal *j, uint64_t record[JILGHVANI_COLUMNS], uint64_t k)
+static void feed(struct journal *j, uint64_t record[JILGHVANI_RECORD], uint64_t k)
 {
     uint64_t told[4];
 
@@ -46,7 +46,7 @@ static void feed(struct journal *j, uint64_t record[JILGHVANI_COLUMNS], uint64_t
 
 /* Settles with all of the digester but a tenth of its carbohydrates, which goes as
  * gas. */
-static void settle(struct journal *j, uint64_t record[JILGHVANI_COLUMNS])
+static void settle(struct journal *j, uint64_t record[JILGHVANI_RECORD])
 {
     uint64_t d[JILGHVANI_DIGESTER];
     uint64_t gas;
@@ -58,7 +58,7 @@ static void settle(struct journal *j, uint64_t record[JILGHVANI_COLUMNS])
     jilghvani_settle(record, gas, d);
 }
 
-static void give_back(struct journal *j, uint64_t record[JILGHVANI_COLUMNS], uint64_t k)
+static void give_back(struct journal *j, uint64_t record[JILGHVANI_RECORD], uint64_t k)
 {
     uint64_t stripped;
 
@@ -66,13 +66,13 @@ static void give_back(struct journal *j, uint64_t record[JILGHVANI_COLUMNS], uin
     jilghvani_return(record, k, &stripped);
 }
 
-static void recycle(struct journal *j, uint64_t record[JILGHVANI_COLUMNS], uint64_t k)
+static void recycle(struct journal *j, uint64_t record[JILGHVANI_RECORD], uint64_t k)
 {
     j->length += jilghvani_write_recycle(k, 0, next(j), room(j));
     jilghvani_recycle(record, k);
 }
 
-static void release(struct journal *j, uint64_t record[JILGHVANI_COLUMNS], uint64_t k)
+static void release(struct journal *j, uint64_t record[JILGHVANI_RECORD], uint64_t k)
 {
     uint64_t v[JILGHVANI_ASM1];
 
@@ -83,7 +83,7 @@ static void release(struct journal *j, uint64_t record[JILGHVANI_COLUMNS], uint6
 /* ---- The journal again ---- */
 
 /* Reads the lines of a journal on a record and prints the answer to each. */
-static void read_again(const struct journal *j, uint64_t record[JILGHVANI_COLUMNS])
+static void read_again(const struct journal *j, uint64_t record[JILGHVANI_RECORD])
 {
     uint8_t buf[JILGHVANI_BUFFER];
     const uint8_t *line = j->bytes;
@@ -100,7 +100,7 @@ static void read_again(const struct journal *j, uint64_t record[JILGHVANI_COLUMN
 int main(void)
 {
     struct journal j = {.length = 0};
-    uint64_t made[JILGHVANI_COLUMNS], read[JILGHVANI_COLUMNS];
+    uint64_t made[JILGHVANI_RECORD], read[JILGHVANI_RECORD];
     uint64_t v[JILGHVANI_ASM1] = {
         [JILGHVANI_ASM1_SS] = 10000, [JILGHVANI_ASM1_XS] = 300000,
         [JILGHVANI_ASM1_SO] = 5000,  [JILGHVANI_ASM1_SNO] = 100000000,

@@ -39,7 +39,7 @@ static const struct sheet sheets[] = {
 
 /* Hands a sheet over and prints the answer: the refusal's text, or what was told,
  * and the sludge tank. */
-static void hand_over(uint64_t record[JILGHVANI_COLUMNS], const char *name,
+static void hand_over(uint64_t record[JILGHVANI_RECORD], const char *name,
                       const uint8_t *kinds, const float *values)
 {
     uint64_t told[4];
@@ -55,7 +55,7 @@ static void hand_over(uint64_t record[JILGHVANI_COLUMNS], const char *name,
 }
 
 /* Hands over a sheet whose ss has these bits, which may be a NaN's of any kind. */
-static void hand_over_bits(uint64_t record[JILGHVANI_COLUMNS], const char *name, uint32_t bits)
+static void hand_over_bits(uint64_t record[JILGHVANI_RECORD], const char *name, uint32_t bits)
 {
     static const uint8_t kinds[JILGHVANI_ASM1] = {0};
     float values[JILGHVANI_ASM1] = {0};
@@ -66,7 +66,7 @@ static void hand_over_bits(uint64_t record[JILGHVANI_COLUMNS], const char *name,
 
 int main(void)
 {
-    uint64_t record[JILGHVANI_COLUMNS];
+    uint64_t record[JILGHVANI_RECORD];
 
     jilghvani_fresh(record);
     for (size_t i = 0; i < sizeof sheets / sizeof *sheets; i++)

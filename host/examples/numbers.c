@@ -12,14 +12,14 @@ static int refused(uint64_t refusal)
 }
 
 /* Receives a vector into the sludge tank. */
-static void receive(uint64_t record[JILGHVANI_COLUMNS], const uint64_t v[JILGHVANI_ASM1])
+static void receive(uint64_t record[JILGHVANI_RECORD], const uint64_t v[JILGHVANI_ASM1])
 {
     if (!refused(jilghvani_receive(record, v)))
         puts("(ok receive)");
 }
 
 /* Feeds k thousandths of the sludge to the digester. */
-static void feed(uint64_t record[JILGHVANI_COLUMNS], uint64_t k)
+static void feed(uint64_t record[JILGHVANI_RECORD], uint64_t k)
 {
     uint64_t told[4];
 
@@ -29,7 +29,7 @@ static void feed(uint64_t record[JILGHVANI_COLUMNS], uint64_t k)
 }
 
 /* Returns k thousandths of the digester to the reject tank. */
-static void give_back(uint64_t record[JILGHVANI_COLUMNS], uint64_t k)
+static void give_back(uint64_t record[JILGHVANI_RECORD], uint64_t k)
 {
     uint64_t stripped;
 
@@ -38,7 +38,7 @@ static void give_back(uint64_t record[JILGHVANI_COLUMNS], uint64_t k)
 }
 
 /* Releases k thousandths of the reject tank. */
-static void release(uint64_t record[JILGHVANI_COLUMNS], uint64_t k)
+static void release(uint64_t record[JILGHVANI_RECORD], uint64_t k)
 {
     uint64_t v[JILGHVANI_ASM1];
 
@@ -51,7 +51,7 @@ static void release(uint64_t record[JILGHVANI_COLUMNS], uint64_t k)
 }
 
 /* Prints what the three tanks hold, as the held line does. */
-static void print_held(const uint64_t record[JILGHVANI_COLUMNS])
+static void print_held(const uint64_t record[JILGHVANI_RECORD])
 {
     uint64_t told[4];
 
@@ -69,7 +69,7 @@ int main(void)
         [JILGHVANI_ASM1_SO] = 5000,
         [JILGHVANI_ASM1_SNO] = 100000000,
     };
-    uint64_t record[JILGHVANI_COLUMNS];
+    uint64_t record[JILGHVANI_RECORD];
 
     jilghvani_fresh(record);
     receive(record, sludge);

@@ -9,13 +9,15 @@
 
 static_assert(sizeof(uint64_t) == 8, "a column has 64 bits");
 static_assert(sizeof(size_t) == 8, "lengths and counts have 64 bits");
-static_assert(sizeof(uint64_t[JILGHVANI_COLUMNS]) == 416, "a record has 416 bytes");
+static_assert(sizeof(uint64_t[JILGHVANI_RECORD]) == 488, "a record has 488 bytes");
 static_assert(JILGHVANI_DIGESTER_AT == JILGHVANI_SLUDGE_AT + JILGHVANI_ASM1,
               "the digester stands behind the sludge");
 static_assert(JILGHVANI_REJECT_AT == JILGHVANI_DIGESTER_AT + JILGHVANI_DIGESTER,
               "reject stands behind the digester");
-static_assert(JILGHVANI_COLUMNS == JILGHVANI_REJECT_AT + JILGHVANI_ASM1,
-              "reject stands last");
+static_assert(JILGHVANI_FIGURES_AT == JILGHVANI_REJECT_AT + JILGHVANI_ASM1,
+              "the figures stand behind reject");
+static_assert(JILGHVANI_RECORD == JILGHVANI_FIGURES_AT + JILGHVANI_FIGURES,
+              "the figures stand last");
 
 /* The lines of the session, without their newlines. */
 static const char *const session[] = {
@@ -36,10 +38,11 @@ static int print_answer(const uint8_t *buf, size_t count)
 /* Runs the session on a fresh record. */
 int main(void)
 {
-    uint64_t record[JILGHVANI_COLUMNS] = {0};
+    uint64_t record[JILGHVANI_RECORD];
     uint8_t buf[JILGHVANI_BUFFER];
     size_t lines = sizeof session / sizeof session[0];
 
+    jilghvani_fresh(record);
     for (size_t i = 0; i < lines; i++) {
         const uint8_t *line = (const uint8_t *)session[i];
         size_t count = jilghvani_line(record, line, strlen(session[i]), buf, sizeof buf);

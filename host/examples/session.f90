@@ -5,58 +5,59 @@
 ! prints its answer.
 !
 ! Fortran has no unsigned integers. A count is an integer of kind c_int64_t, which
-! goes up to 2^63 - 1: a column goes up to 10^16, and all that an accepted call
-! takes or gives is below 10^17. A number below zero that is handed over is read
-! as one of 2^63 or more, which is above every ceiling. Columns are counted from 1
-! here: a column's place is one more than in the header.
+! goes up to 2^63 - 1, some 9.2 * 10^18: a column goes up to 10^16, and all that an
+! accepted call takes or gives to 2.7 * 10^17. A number below zero that is handed
+! over is read as one of 2^63 or more, which is above every ceiling and no permitted
+! figure. Columns are counted from 1 here: a column's place is one more than in the
+! header.
 module jilghvani
     use, intrinsic :: iso_c_binding, only: c_int64_t
     implicit none
 
     integer, parameter :: i64 = c_int64_t
     integer, parameter :: asm1_columns = 13
-    integer, parameter :: record_columns = 52
+    integer, parameter :: record_numbers = 61
 
     interface
         subroutine jilghvani_fresh(record) bind(c, name='jilghvani_fresh')
-            import :: i64, record_columns
-            integer(i64), intent(out) :: record(record_columns)
+            import :: i64, record_numbers
+            integer(i64), intent(out) :: record(record_numbers)
         end subroutine jilghvani_fresh
 
         function jilghvani_receive(record, v) result(refusal) bind(c, name='jilghvani_receive')
-            import :: i64, record_columns, asm1_columns
-            integer(i64), intent(inout) :: record(record_columns)
+            import :: i64, record_numbers, asm1_columns
+            integer(i64), intent(inout) :: record(record_numbers)
             integer(i64), intent(in) :: v(asm1_columns)
             integer(i64) :: refusal
         end function jilghvani_receive
 
         function jilghvani_feed(record, k, told) result(refusal) bind(c, name='jilghvani_feed')
-            import :: i64, record_columns
-            integer(i64), intent(inout) :: record(record_columns)
+            import :: i64, record_numbers
+            integer(i64), intent(inout) :: record(record_numbers)
             integer(i64), value :: k
             integer(i64), intent(out) :: told(4)
             integer(i64) :: refusal
         end function jilghvani_feed
 
         function jilghvani_return(record, k, told) result(refusal) bind(c, name='jilghvani_return')
-            import :: i64, record_columns
-            integer(i64), intent(inout) :: record(record_columns)
+            import :: i64, record_numbers
+            integer(i64), intent(inout) :: record(record_numbers)
             integer(i64), value :: k
             integer(i64), intent(out) :: told(1)
             integer(i64) :: refusal
         end function jilghvani_return
 
         function jilghvani_release(record, k, v) result(refusal) bind(c, name='jilghvani_release')
-            import :: i64, record_columns, asm1_columns
-            integer(i64), intent(inout) :: record(record_columns)
+            import :: i64, record_numbers, asm1_columns
+            integer(i64), intent(inout) :: record(record_numbers)
             integer(i64), value :: k
             integer(i64), intent(out) :: v(asm1_columns)
             integer(i64) :: refusal
         end function jilghvani_release
 
         function jilghvani_totals(record, told) result(refusal) bind(c, name='jilghvani_totals')
-            import :: i64, record_columns
-            integer(i64), intent(in) :: record(record_columns)
+            import :: i64, record_numbers
+            integer(i64), intent(in) :: record(record_numbers)
             integer(i64), intent(out) :: told(4)
             integer(i64) :: refusal
         end function jilghvani_totals
@@ -70,7 +71,7 @@ program session
     integer, parameter :: ss = 2, xs = 4, so = 8, sno = 9
     character(len=4), parameter :: names(asm1_columns) = [character(len=4) :: &
         'si', 'ss', 'xi', 'xs', 'xbh', 'xba', 'xp', 'so', 'sno', 'snh', 'snd', 'xnd', 'salk']
-    integer(i64) :: record(record_columns), sludge(asm1_columns)
+    integer(i64) :: record(record_numbers), sludge(asm1_columns)
 
     call jilghvani_fresh(record)
     sludge = 0

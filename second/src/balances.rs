@@ -1,28 +1,32 @@
 //! The four balances over a list of calls, COD, TKN, oxygen and nitrate, computed from
-//! the calls and their answers alone, without a look at the tanks.
+//! the calls and their answers alone, without a look at the tanks. TKN goes by the figures
+//! that the list's record was made with.
 //!
 //! What the list received is in the tanks after it, or it has left them: released, burnt
 //! or reduced by feeds, stripped by returns, or gas of settles. A recycle moves water
 //! between two tanks and adds to neither side; a refused call and a preview count for
 //! nothing.
 
+use crate::figures::Figures;
 use crate::lines::{self, Asked};
-use crate::plant::Call;
+use crate::plant::{Call, Plant};
 use crate::tables::*;
 
 /// COD, TKN, oxygen and nitrate, as whole numbers without a ceiling.
 pub type Four = [u128; 4];
 
-/// What a list of calls has received, and what has left the tanks.
+/// What a list of calls has received, and what has left the tanks; by default a list of none on
+/// a fresh record of the house set.
 #[derive(Clone, Copy, Debug, Default, PartialEq, Eq)]
 pub struct Balances {
+    pub figures: Figures,
     pub received: Four,
     pub left: Four,
 }
 
 /// COD, TKN, oxygen and nitrate of an ASM1 vector.
-pub fn measures(v: &Asm1) -> Four {
-    [cod_asm1(v), tkn_asm1(v), v[asm1::SO].into(), v[asm1::SNO].into()]
+pub fn measures(figures: &Figures, v: &Asm1) -> Four {
+    [cod_asm1(v), figures.tkn_asm1(v), v[asm1::SO].into(), v[asm1::SNO].into()]
 }
 
 /// Adds four counts to four others.
@@ -40,15 +44,17 @@ pub fn numbers_in(answer: &[u8]) -> Vec<u64> {
 }
 
 impl Balances {
-    /// The balances of a list on a record that holds this, which counts as received.
-    pub fn on(held: [u64; 4]) -> Balances {
-        Balances { received: held.map(u128::from), left: [0; 4] }
+    /// The balances of a list on this record; what it holds counts as received. Of one that is
+    /// refused nothing is told, and it takes no call.
+    pub fn on(plant: &Plant) -> Balances {
+        let held = plant.held().map_or([0; 4], |held| held.numbers());
+        Balances { figures: plant.figures, received: held.map(u128::from), left: [0; 4] }
     }
 
     /// Counts an accepted call, with the numbers that it told or handed out.
     pub fn count(&mut self, call: &Call, told: &[u64]) {
         match (call, told) {
-            (Call::Receive(v), []) => add(&mut self.received, measures(v)),
+            (Call::Receive(v), []) => add(&mut self.received, measures(&self.figures, v)),
             (Call::Feed(_), &[burnt, oxygen, nitrate, _]) => {
                 add(&mut self.left, [burnt.into(), 0, oxygen.into(), nitrate.into()]);
             }
@@ -56,7 +62,7 @@ impl Balances {
             (Call::Return(_), &[stripped]) => add(&mut self.left, [stripped.into(), 0, 0, 0]),
             (Call::Release(_), columns) => {
                 let v = columns.try_into().expect("a release hands thirteen columns out");
-                add(&mut self.left, measures(v));
+                add(&mut self.left, measures(&self.figures, v));
             }
             (Call::Recycle(_), []) => {}
             _ => panic!("{call:?} does not tell {told:?}"),

@@ -6,6 +6,8 @@
 //! - gas = COD old − COD d;
 //! - sin = TKN old − TKN of all columns of d but sin;
 //! - co and cn as in old, and every other column as in d.
+//!
+//! TKN goes by the record's figures.
 
 use crate::plant::{test_columns, Plant, Refusal};
 use crate::tables::*;
@@ -20,13 +22,14 @@ pub struct Gap {
 }
 
 impl Plant {
-    /// The vector that closes in a proposal's place, and the gas; tests 1, 3, 7, 8, and
+    /// The vector that closes in a proposal's place, and the gas; tests 15, 1, 3, 7, 8, and
     /// under 3 also the sin that closes.
     pub fn close(&self, proposal: &Digester) -> Result<(Digester, u64), Refusal> {
         use digester::{CN, CO, SIN};
         self.test_record()?;
         test_columns(proposal, &DIGESTER_CEILINGS)?;
-        let nitrogen = tkn_digester(&self.digester).checked_sub(tkn_but_sin(proposal));
+        let bound = self.figures.tkn_but_sin(proposal);
+        let nitrogen = self.figures.tkn_digester(&self.digester).checked_sub(bound);
         if nitrogen.is_some_and(|sin| sin > u128::from(TICK_CEILING)) {
             return Err(Refusal::ColumnAboveCeiling);
         }
@@ -40,12 +43,14 @@ impl Plant {
         Ok((closed, gas as u64))
     }
 
-    /// How far off a proposal is; tests 1, 3. Within the ceilings each number is far below 2^64.
+    /// How far off a proposal is; tests 15, 1, 3. Within the ceilings each number is far below
+    /// 2^64, by any permitted figures.
     pub fn gap(&self, proposal: &Digester) -> Result<Gap, Refusal> {
         self.test_record()?;
         test_columns(proposal, &DIGESTER_CEILINGS)?;
         let over = |is: u128, may_be: u128| is.saturating_sub(may_be) as u64;
-        let (tkn, bound) = (tkn_digester(&self.digester), tkn_but_sin(proposal));
+        let tkn = self.figures.tkn_digester(&self.digester);
+        let bound = self.figures.tkn_but_sin(proposal);
         Ok(Gap {
             cod: over(cod_digester(proposal), cod_digester(&self.digester)),
             tkn: over(bound, tkn),

@@ -1,10 +1,12 @@
-//! The two conversions of document 01, each on one drawn vector: feed (ASM1 to
-//! digester, stages 1 to 5) and return (digester to ASM1); and both of any vector
-//! by itself, without a record.
+//! The two conversions of document 01, each on one drawn vector and by the figures of its
+//! record: feed (ASM1 to digester, stages 1 to 5) and return (digester to ASM1); and both of
+//! any vector by itself, without a record, by any figures.
 //!
-//! `feed` and `give_back` are handed no column above its ceiling. Then no product or
-//! sum here passes 64 bits: the greatest are 10^6 × 4·10^12 and 286 × 10^16.
+//! `feed` and `give_back` are handed permitted figures and no column above its ceiling. Then
+//! no product or sum here passes 64 bits: the greatest are 10^6 × 4·10^12 and 286 × 10^16; of
+//! those with a figure none passes 10^17, the nitrogen of ten columns.
 
+use crate::figures::Figures;
 use crate::plant::{test_columns, Refusal};
 use crate::tables::*;
 use std::cmp::min;
@@ -64,34 +66,35 @@ pub fn left_after(v: &Asm1, burnt: u64) -> [u64; 4] {
 }
 
 /// Stage 2: the amino acids that soluble organic nitrogen and the ss left allow.
-pub fn amino_acids(v: &Asm1, ss_left: u64) -> u64 {
-    min(ss_left, v[asm1::SND] / NAA)
+pub fn amino_acids(figures: &Figures, v: &Asm1, ss_left: u64) -> u64 {
+    min(ss_left, v[asm1::SND] / figures.naa)
 }
 
 /// Stages 3 and 4: the pool of organic nitrogen, with biomass as it was before stage 1,
 /// the inert COD that stays inert, and the nitrogen both inerts need.
-pub fn inerts(v: &Asm1, saa: u64) -> Inerts {
+pub fn inerts(figures: &Figures, v: &Asm1, saa: u64) -> Inerts {
     use asm1::*;
-    let pool = v[SND] - NAA * saa + v[XND] + IXB * (v[XBH] + v[XBA]) + IXE * (v[XI] + v[XP]);
-    let xi = FXI * (v[XI] + v[XP]) / 10_000;
-    Inerts { xi, need: NI * (v[SI] + xi), pool }
+    let Figures { ixb, ixe, ni, naa, fxi, .. } = *figures;
+    let pool = v[SND] - naa * saa + v[XND] + ixb * (v[XBH] + v[XBA]) + ixe * (v[XI] + v[XP]);
+    let xi = fxi * (v[XI] + v[XP]) / 10_000;
+    Inerts { xi, need: ni * (v[SI] + xi), pool }
 }
 
 /// Feed: the drawn ASM1 vector as a digester vector, with what was burnt and reduced. It is drawn
 /// into each of its callers, so that one of them is not slower where there is another.
 #[inline(always)]
-pub fn feed(v: &Asm1) -> Result<(Digester, FeedTold), Refusal> {
+pub fn feed(figures: &Figures, v: &Asm1) -> Result<(Digester, FeedTold), Refusal> {
     let burn = burn(v);
     let left = left_after(v, burn.burnt);
-    let saa = amino_acids(v, left[0]);
-    let inerts = inerts(v, saa);
+    let saa = amino_acids(figures, v, left[0]);
+    let inerts = inerts(figures, v, saa);
     if inerts.need > inerts.pool + v[asm1::SNH] {
         return Err(Refusal::FeedNitrogenShort);
     }
     if burn.burnt > burn.available {
         return Err(Refusal::BurntAboveAvailable);
     }
-    let mut out = partition(v, &left, &inerts);
+    let mut out = partition(figures, v, &left, &inerts);
     out[digester::SAA] = saa;
     out[digester::SSU] = left[0] - saa;
     out[digester::CO] = v[asm1::SO] - burn.oxygen;
@@ -102,29 +105,31 @@ pub fn feed(v: &Asm1) -> Result<(Digester, FeedTold), Refusal> {
 }
 
 /// Stages 4 and 5: inerts, composites, carbohydrate, lipid and inorganic nitrogen.
-fn partition(v: &Asm1, left: &[u64; 4], inerts: &Inerts) -> Digester {
+fn partition(figures: &Figures, v: &Asm1, left: &[u64; 4], inerts: &Inerts) -> Digester {
     use digester::*;
+    let Figures { nxc, fch, fli, .. } = *figures;
     let pool_left = inerts.pool.saturating_sub(inerts.need);
     let ammonia_left = v[asm1::SNH] - inerts.need.saturating_sub(inerts.pool);
     let rest = left[1] + left[2] + left[3] + v[asm1::XI] + v[asm1::XP] - inerts.xi;
     let mut out = [0; 26];
     out[SI] = v[asm1::SI];
     out[XI] = inerts.xi;
-    out[XC] = min(rest, pool_left / NXC);
-    out[XCH] = FCH * (rest - out[XC]) / (FCH + FLI);
+    out[XC] = min(rest, pool_left / nxc);
+    out[XCH] = fch * (rest - out[XC]) / (fch + fli);
     out[XLI] = rest - out[XC] - out[XCH];
-    out[SIN] = ammonia_left + pool_left - NXC * out[XC];
+    out[SIN] = ammonia_left + pool_left - nxc * out[XC];
     out[SIC] = v[asm1::SALK];
     out
 }
 
 /// Return: the drawn digester vector as an ASM1 vector, with the COD stripped as gas.
-pub fn give_back(v: &Digester) -> Result<(Asm1, u64), Refusal> {
+pub fn give_back(figures: &Figures, v: &Digester) -> Result<(Asm1, u64), Refusal> {
     use digester::*;
+    let Figures { ixe, nxc, ni, naa, nbac, .. } = *figures;
     let degraders: u64 = v[DEGRADERS].iter().sum();
-    let xnd = NXC * v[XC] + NAA * v[XPR] + NBAC * degraders + NI * v[XI];
-    let snd = NAA * v[SAA] + NI * v[SI];
-    let [xnd, snd, snh] = take_in_turn([xnd, snd, v[SIN]], IXE * v[XI])?;
+    let xnd = nxc * v[XC] + naa * v[XPR] + nbac * degraders + ni * v[XI];
+    let snd = naa * v[SAA] + ni * v[SI];
+    let [xnd, snd, snh] = take_in_turn([xnd, snd, v[SIN]], ixe * v[XI])?;
     let mut out = [0; 13];
     out[asm1::SI] = v[SI];
     out[asm1::SS] = v[SOLUBLE].iter().sum();
@@ -152,16 +157,18 @@ fn take_in_turn(mut stores: [u64; 3], mut owed: u64) -> Result<[u64; 3], Refusal
     Ok(stores)
 }
 
-/// The feed's conversion of any ASM1 vector by itself; tests 3, 4, 6. A column of the
-/// digester vector may stand above its ceiling.
-pub fn asm_to_adm(v: &Asm1) -> Result<(Digester, FeedTold), Refusal> {
+/// The feed's conversion of any ASM1 vector by itself, by any figures; tests 15, 3, 4, 6. A
+/// column of the digester vector may stand above its ceiling.
+pub fn asm_to_adm(figures: &Figures, v: &Asm1) -> Result<(Digester, FeedTold), Refusal> {
+    figures.test()?;
     test_columns(v, &ASM1_CEILINGS)?;
-    feed(v)
+    feed(figures, v)
 }
 
-/// The return's conversion of any digester vector by itself, with the COD stripped;
-/// tests 3, 5. A column of the ASM1 vector may stand above its ceiling.
-pub fn adm_to_asm(v: &Digester) -> Result<(Asm1, u64), Refusal> {
+/// The return's conversion of any digester vector by itself, by any figures, with the COD
+/// stripped; tests 15, 3, 5. A column of the ASM1 vector may stand above its ceiling.
+pub fn adm_to_asm(figures: &Figures, v: &Digester) -> Result<(Asm1, u64), Refusal> {
+    figures.test()?;
     test_columns(v, &DIGESTER_CEILINGS)?;
-    give_back(v)
+    give_back(figures, v)
 }

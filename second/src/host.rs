@@ -38,6 +38,8 @@ unsafe extern "C" {
     fn jilghvani_write_release(k: u64, preview: u64, buf: *mut u8, buf_len: usize) -> usize;
     /// Writes the line of a recycle; `write_recycle` below calls it.
     fn jilghvani_write_recycle(k: u64, preview: u64, buf: *mut u8, buf_len: usize) -> usize;
+    /// The same as `numbers::make`.
+    pub safe fn jilghvani_make(record: &mut Record, figures: &[u64; 9]) -> u64;
     /// The same as `numbers::fresh`.
     pub safe fn jilghvani_fresh(record: &mut Record);
     /// The same as `numbers::receive`.
@@ -62,9 +64,19 @@ unsafe extern "C" {
     /// The same as `numbers::totals`.
     pub safe fn jilghvani_totals(record: &Record, told: &mut [u64; 4]) -> u64;
     /// The same as `numbers::asm_to_adm`.
-    pub safe fn jilghvani_asm_to_adm(v: &Asm1, d: &mut Digester, told: &mut [u64; 4]) -> u64;
+    pub safe fn jilghvani_asm_to_adm(
+        figures: &[u64; 9],
+        v: &Asm1,
+        d: &mut Digester,
+        told: &mut [u64; 4],
+    ) -> u64;
     /// The same as `numbers::adm_to_asm`.
-    pub safe fn jilghvani_adm_to_asm(d: &Digester, v: &mut Asm1, told: &mut [u64; 1]) -> u64;
+    pub safe fn jilghvani_adm_to_asm(
+        figures: &[u64; 9],
+        d: &Digester,
+        v: &mut Asm1,
+        told: &mut [u64; 1],
+    ) -> u64;
     /// The same as `numbers::close`.
     pub safe fn jilghvani_close(record: &Record, d: &mut Digester, told: &mut [u64; 1]) -> u64;
     /// The same as `numbers::gap`.

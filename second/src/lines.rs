@@ -80,7 +80,7 @@ fn fields<const W: usize>(
 }
 
 /// Reads a number that fills the whole slice.
-fn whole_number(bytes: &[u8]) -> Option<u64> {
+pub(crate) fn whole_number(bytes: &[u8]) -> Option<u64> {
     match leading_number(bytes)? {
         (number, []) => Some(number),
         _ => None,

@@ -2,9 +2,11 @@
 //! written to, and the refusal's number comes back, 0 where the call is accepted.
 //!
 //! Where a call is refused the record is as it was, and everything that is told or
-//! handed out is zeros; the proposal of a refused `close` stays as it was.
+//! handed out is zeros; the proposal of a refused `close` stays as it was, and a making that
+//! is refused hands out a fresh record of the house set.
 
 use crate::convert;
+use crate::figures::Figures;
 use crate::plant::{Plant, Record, Refusal};
 use crate::sheets::Sheet;
 use crate::tables::{Asm1, Digester};
@@ -27,7 +29,15 @@ fn on_record<const W: usize>(
     tell(told, result)
 }
 
-/// Makes every column zero.
+/// Makes a fresh record with these figures, whatever it was; where they are out of bounds, with
+/// the house set.
+pub fn make(record: &mut Record, figures: &[u64; 9]) -> u64 {
+    let made = Plant::make(Figures::from_numbers(figures));
+    *record = made.unwrap_or(Plant::FRESH).columns();
+    made.err().map_or(0, |refusal| refusal as u64)
+}
+
+/// Makes every column zero, and the figures the house set.
 pub fn fresh(record: &mut Record) {
     *record = Plant::FRESH.columns();
 }
@@ -79,16 +89,16 @@ pub fn totals(record: &Record, told: &mut [u64; 4]) -> u64 {
     tell(told, Plant::from_columns(record).held().map(|held| held.numbers()))
 }
 
-/// Converts v to d by itself; tells burnt, oxygen, nitrate and warn.
-pub fn asm_to_adm(v: &Asm1, d: &mut Digester, told: &mut [u64; 4]) -> u64 {
-    let result = convert::asm_to_adm(v);
+/// Converts v to d by itself, by these figures; tells burnt, oxygen, nitrate and warn.
+pub fn asm_to_adm(figures: &[u64; 9], v: &Asm1, d: &mut Digester, told: &mut [u64; 4]) -> u64 {
+    let result = convert::asm_to_adm(&Figures::from_numbers(figures), v);
     tell(d, result.map(|(converted, _)| converted));
     tell(told, result.map(|(_, told)| told.numbers()))
 }
 
-/// Converts d to v by itself; tells the COD stripped.
-pub fn adm_to_asm(d: &Digester, v: &mut Asm1, told: &mut [u64; 1]) -> u64 {
-    let result = convert::adm_to_asm(d);
+/// Converts d to v by itself, by these figures; tells the COD stripped.
+pub fn adm_to_asm(figures: &[u64; 9], d: &Digester, v: &mut Asm1, told: &mut [u64; 1]) -> u64 {
+    let result = convert::adm_to_asm(&Figures::from_numbers(figures), d);
     tell(v, result.map(|(converted, _)| converted));
     tell(told, result.map(|(_, stripped)| [stripped]))
 }

@@ -1,10 +1,15 @@
-//! The plant record: sludge, digester and reject tank, the six calls on it and their
-//! previews, the refusals in their order, and what is held.
+//! The plant record: sludge, digester and reject tank, and the figures that it was made with;
+//! the six calls on it and their previews, the refusals in their order, and what is held.
+//!
+//! Any nine numbers may stand in a record. Every call tests them first, goes by them, and
+//! leaves them as they are.
 
 use crate::convert::{self, FeedTold};
+use crate::figures::{Figures, HOUSE};
 use crate::tables::*;
 
-/// Why a call is sent away; the value is its number in document 01, or in E6 of document 02.
+/// Why a call is sent away; the value is its number in document 01, or in E6 and E7 of
+/// document 02.
 #[derive(Clone, Copy, Debug, PartialEq, Eq)]
 #[repr(u8)]
 pub enum Refusal {
@@ -22,6 +27,7 @@ pub enum Refusal {
     BufferShort = 12,
     NoAmount = 13,
     CountAboveCeiling = 14,
+    FiguresOutOfBounds = 15,
 }
 
 /// One of the six calls, with the numbers and the vector it is handed.
@@ -62,16 +68,21 @@ impl Held {
     }
 }
 
-/// A record by its 52 columns: those of the sludge, the digester and the reject tank.
-pub type Record = [u64; 52];
+/// How many columns the three tanks have.
+pub const TANKS: usize = 52;
 
-/// The plant record. Its 52 columns stand in this order.
+/// A record by its 61 numbers: the columns of the sludge, the digester and the reject tank, and
+/// the nine figures.
+pub type Record = [u64; 61];
+
+/// The plant record. Its 61 numbers stand in this order.
 #[derive(Clone, Copy, Debug, PartialEq, Eq)]
 #[repr(C)]
 pub struct Plant {
     pub sludge: Asm1,
     pub digester: Digester,
     pub reject: Asm1,
+    pub figures: Figures,
 }
 
 /// The k thousandths that are drawn of each column; k is at most 1000 and v within its ceilings.
@@ -114,29 +125,43 @@ fn test_thousandths(k: u64) -> Result<(), Refusal> {
 }
 
 impl Plant {
-    /// The fresh record: every column zero.
-    pub const FRESH: Plant = Plant { sludge: [0; 13], digester: [0; 26], reject: [0; 13] };
+    /// The fresh record of the house set: every column zero.
+    pub const FRESH: Plant = Plant::fresh(HOUSE);
 
-    /// The record whose 52 columns are these.
+    /// A fresh record in which any figures stand.
+    pub const fn fresh(figures: Figures) -> Plant {
+        Plant { sludge: [0; 13], digester: [0; 26], reject: [0; 13], figures }
+    }
+
+    /// A fresh record that is made with these figures; tests 15.
+    pub fn make(figures: Figures) -> Result<Plant, Refusal> {
+        figures.test().map(|()| Plant::fresh(figures))
+    }
+
+    /// The record whose 61 numbers are these.
     pub fn from_columns(columns: &Record) -> Plant {
         Plant {
             sludge: std::array::from_fn(|column| columns[column]),
             digester: std::array::from_fn(|column| columns[13 + column]),
             reject: std::array::from_fn(|column| columns[39 + column]),
+            figures: Figures::from_numbers(&std::array::from_fn(|place| columns[TANKS + place])),
         }
     }
 
-    /// The 52 columns of the record in their order.
+    /// The 61 numbers of the record in their order.
     pub fn columns(&self) -> Record {
-        let mut columns = [0; 52];
+        let mut columns = [0; 61];
         columns[..13].copy_from_slice(&self.sludge);
         columns[13..39].copy_from_slice(&self.digester);
-        columns[39..].copy_from_slice(&self.reject);
+        columns[39..TANKS].copy_from_slice(&self.reject);
+        columns[TANKS..].copy_from_slice(&self.figures.numbers());
         columns
     }
 
-    /// Refusal 1 where a column of the record stands above its ceiling.
+    /// Refusal 15 where the figures are out of bounds, then 1 where a column of the record
+    /// stands above its ceiling.
     pub fn test_record(&self) -> Result<(), Refusal> {
+        self.figures.test()?;
         let fits = within(&self.sludge, &ASM1_CEILINGS)
             & within(&self.digester, &DIGESTER_CEILINGS)
             & within(&self.reject, &ASM1_CEILINGS);
@@ -146,7 +171,7 @@ impl Plant {
         }
     }
 
-    /// Adds an ASM1 vector to the sludge tank; tests 1, 3, 10.
+    /// Adds an ASM1 vector to the sludge tank; tests 15, 1, 3, 10.
     pub fn receive(&mut self, v: &Asm1) -> Result<(), Refusal> {
         self.test_record()?;
         test_columns(v, &ASM1_CEILINGS)?;
@@ -154,18 +179,18 @@ impl Plant {
         Ok(())
     }
 
-    /// Draws from sludge, converts and adds to the digester; tests 1, 2, 4, 6, 10.
+    /// Draws from sludge, converts and adds to the digester; tests 15, 1, 2, 4, 6, 10.
     pub fn feed(&mut self, k: u64) -> Result<FeedTold, Refusal> {
         self.test_record()?;
         test_thousandths(k)?;
         let drawn = draw(&self.sludge, k);
-        let (converted, told) = convert::feed(&drawn)?;
+        let (converted, told) = convert::feed(&self.figures, &drawn)?;
         self.digester = add(&self.digester, &converted, &DIGESTER_CEILINGS)?;
         self.sludge = rest(&self.sludge, &drawn);
         Ok(told)
     }
 
-    /// Replaces the digester where COD, TKN, co and cn close; tests 1, 3, 7, 8, 9.
+    /// Replaces the digester where COD, TKN, co and cn close; tests 15, 1, 3, 7, 8, 9.
     pub fn settle(&mut self, gas: u64, v: &Digester) -> Result<(), Refusal> {
         use digester::{CN, CO};
         self.test_record()?;
@@ -173,7 +198,7 @@ impl Plant {
         if cod_digester(&self.digester) != cod_digester(v) + u128::from(gas) {
             return Err(Refusal::CodOpen);
         }
-        if tkn_digester(&self.digester) != tkn_digester(v) {
+        if self.figures.tkn_digester(&self.digester) != self.figures.tkn_digester(v) {
             return Err(Refusal::TknDiffers);
         }
         if self.digester[CO] != v[CO] || self.digester[CN] != v[CN] {
@@ -183,18 +208,19 @@ impl Plant {
         Ok(())
     }
 
-    /// Draws from the digester, converts and adds to reject; tests 1, 2, 5, 10. Tells COD stripped.
+    /// Draws from the digester, converts and adds to reject; tests 15, 1, 2, 5, 10. Tells COD
+    /// stripped.
     pub fn give_back(&mut self, k: u64) -> Result<u64, Refusal> {
         self.test_record()?;
         test_thousandths(k)?;
         let drawn = draw(&self.digester, k);
-        let (converted, stripped) = convert::give_back(&drawn)?;
+        let (converted, stripped) = convert::give_back(&self.figures, &drawn)?;
         self.reject = add(&self.reject, &converted, &ASM1_CEILINGS)?;
         self.digester = rest(&self.digester, &drawn);
         Ok(stripped)
     }
 
-    /// Draws from reject and hands the vector out; tests 1, 2.
+    /// Draws from reject and hands the vector out; tests 15, 1, 2.
     pub fn release(&mut self, k: u64) -> Result<Asm1, Refusal> {
         self.test_record()?;
         test_thousandths(k)?;
@@ -203,7 +229,7 @@ impl Plant {
         Ok(drawn)
     }
 
-    /// Draws from reject and adds the draw to the sludge tank; tests 1, 2, 10.
+    /// Draws from reject and adds the draw to the sludge tank; tests 15, 1, 2, 10.
     pub fn recycle(&mut self, k: u64) -> Result<(), Refusal> {
         self.test_record()?;
         test_thousandths(k)?;
@@ -231,16 +257,18 @@ impl Plant {
         copy.call(call)
     }
 
-    /// COD, TKN, oxygen and nitrate over all three tanks, or refusal 1.
+    /// COD, TKN, oxygen and nitrate over all three tanks; tests 15, 1.
     pub fn held(&self) -> Result<Held, Refusal> {
         self.test_record()?;
-        let (sludge, digester, reject) = (&self.sludge, &self.digester, &self.reject);
+        let Plant { sludge, digester, reject, figures } = self;
         let carried = |asm1: usize, carried: usize| {
             u128::from(sludge[asm1]) + u128::from(digester[carried]) + u128::from(reject[asm1])
         };
         Ok(Held {
             cod: cod_asm1(sludge) + cod_digester(digester) + cod_asm1(reject),
-            tkn: tkn_asm1(sludge) + tkn_digester(digester) + tkn_asm1(reject),
+            tkn: figures.tkn_asm1(sludge)
+                + figures.tkn_digester(digester)
+                + figures.tkn_asm1(reject),
             oxygen: carried(asm1::SO, digester::CO),
             nitrate: carried(asm1::SNO, digester::CN),
         })

@@ -17,9 +17,9 @@ struct Answers<'w, W: Write> {
 }
 
 impl<'w, W: Write> Answers<'w, W> {
-    /// Starts with a fresh record and no answers.
-    fn new(sink: &'w mut W) -> Self {
-        Answers { plant: Plant::FRESH, block: vec![0; BLOCK].into(), filled: 0, sink }
+    /// Starts with this record and no answers.
+    fn new(plant: Plant, sink: &'w mut W) -> Self {
+        Answers { plant, block: vec![0; BLOCK].into(), filled: 0, sink }
     }
 
     /// Makes sure that an answer and its newline fit behind the filled part.
@@ -119,10 +119,15 @@ fn read_once(input: &mut impl Read, space: &mut [u8]) -> Result<usize> {
     }
 }
 
-/// Runs a session from a fresh record: an answer for each line, then the held line.
-/// Every answer to a whole line that has been read is written before the next read.
+/// Runs a session from a fresh record of the house set.
 pub fn run(input: &mut impl Read, output: &mut impl Write) -> Result<()> {
-    let mut answers = Answers::new(output);
+    run_on(Plant::FRESH, input, output)
+}
+
+/// Runs a session from this record: an answer for each line, then the held line.
+/// Every answer to a whole line that has been read is written before the next read.
+pub fn run_on(plant: Plant, input: &mut impl Read, output: &mut impl Write) -> Result<()> {
+    let mut answers = Answers::new(plant, output);
     let mut cutter = Input::new();
     loop {
         answers.write_out()?;

@@ -93,7 +93,7 @@ impl Sheet {
 
 impl Plant {
     /// Receives the counts of a sheet and tells what was not seen; tests 13 and 14 column by
-    /// column, then those of receive.
+    /// column, then those of receive, 15 first.
     pub fn sheet(&mut self, sheet: &Sheet) -> Result<Unseen, Refusal> {
         let (counts, unseen) = sheet.read()?;
         self.receive(&counts)?;

@@ -1,5 +1,5 @@
-//! The columns of both vectors with their names, positions and ceilings, the
-//! house set, and the composite measures COD and TKN.
+//! The columns of both vectors with their names, positions and ceilings, and the
+//! composite measure COD.
 
 /// An ASM1 vector: thirteen columns in the order of `ASM1_NAMES`.
 pub type Asm1 = [u64; 13];
@@ -97,27 +97,8 @@ pub fn within<const W: usize>(v: &[u64; W], ceilings: &[u64; W]) -> bool {
     v.iter().zip(ceilings).fold(true, |fits, (column, ceiling)| fits & (column <= ceiling))
 }
 
-/// Nitrogen of biomass, in ticks per mg COD.
-pub const IXB: u64 = 880;
-/// Nitrogen of ASM1 inerts.
-pub const IXE: u64 = 880;
-/// Nitrogen of composites.
-pub const NXC: u64 = 280;
-/// Nitrogen of digester inerts.
-pub const NI: u64 = 280;
-/// Nitrogen of amino acids and protein.
-pub const NAA: u64 = 980;
-/// Nitrogen of degraders.
-pub const NBAC: u64 = 875;
-/// Inerts that stay inert, in ten thousandths.
-pub const FXI: u64 = 8000;
-/// Carbohydrate, in ten thousandths.
-pub const FCH: u64 = 2000;
-/// Lipid, in ten thousandths.
-pub const FLI: u64 = 2500;
-
 /// Adds columns up as whole numbers without a ceiling.
-fn sum(columns: &[u64]) -> u128 {
+pub fn sum(columns: &[u64]) -> u128 {
     columns.iter().map(|&column| u128::from(column)).sum()
 }
 
@@ -129,40 +110,6 @@ pub fn cod_asm1(v: &Asm1) -> u128 {
 /// COD of a digester vector: its 22 first columns.
 pub fn cod_digester(v: &Digester) -> u128 {
     sum(&v[digester::COD])
-}
-
-/// TKN of an ASM1 vector, in ticks.
-pub fn tkn_asm1(v: &Asm1) -> u128 {
-    use asm1::*;
-    sum(&v[SNH..=XND])
-        + u128::from(IXB) * (u128::from(v[XBH]) + u128::from(v[XBA]))
-        + u128::from(IXE) * (u128::from(v[XI]) + u128::from(v[XP]))
-}
-
-/// TKN of a digester vector, in ticks.
-pub fn tkn_digester(v: &Digester) -> u128 {
-    u128::from(v[digester::SIN]) + tkn_but_sin(v)
-}
-
-/// TKN of all columns of a digester vector but sin.
-pub fn tkn_but_sin(v: &Digester) -> u128 {
-    use digester::*;
-    u128::from(NXC) * u128::from(v[XC])
-        + u128::from(NI) * (u128::from(v[SI]) + u128::from(v[XI]))
-        + u128::from(NAA) * (u128::from(v[XPR]) + u128::from(v[SAA]))
-        + u128::from(NBAC) * sum(&v[DEGRADERS])
-}
-
-/// Nitrogen of one mg COD in a digester column, in ticks.
-pub fn nitrogen_of(column: usize) -> u64 {
-    use digester::*;
-    match column {
-        XC => NXC,
-        SI | XI => NI,
-        XPR | SAA => NAA,
-        _ if DEGRADERS.contains(&column) => NBAC,
-        _ => 0,
-    }
 }
 
 /// The column of an ASM1 vector that has this name.
@@ -241,21 +188,10 @@ mod tests {
         }
     }
 
-    /// TKN of a digester vector is sin and the nitrogen of each COD column.
-    #[test]
-    fn nitrogen_by_column_adds_up_to_tkn() {
-        let v: Digester = std::array::from_fn(|column| (column as u64 + 3) * 1_000_003);
-        let by_column: u64 = (0..22).map(|column| v[column] * nitrogen_of(column)).sum();
-        assert_eq!(tkn_digester(&v), u128::from(by_column + v[digester::SIN]));
-    }
-
     /// The sums do not wrap on the greatest columns.
     #[test]
     fn sums_do_not_wrap() {
         assert_eq!(cod_asm1(&[u64::MAX; 13]), 7 * u128::from(u64::MAX));
         assert_eq!(cod_digester(&[u64::MAX; 26]), 22 * u128::from(u64::MAX));
-        assert_eq!(tkn_asm1(&[u64::MAX; 13]), 3523 * u128::from(u64::MAX));
-        let parts = 1 + 280 + 2 * 280 + 2 * 980 + 7 * 875;
-        assert_eq!(tkn_digester(&[u64::MAX; 26]), parts * u128::from(u64::MAX));
     }
 }

@@ -6,10 +6,11 @@ mod named;
 
 use named::{asm1, digester, with_digester, with_sludge};
 use second::closing::Gap;
+use second::figures::HOUSE;
 use second::plant::{Plant, Refusal};
 use second::random::Random;
 use second::tables::*;
-use second::trials::{proposals, Trial};
+use second::trials::Trial;
 use second::{convert, numbers};
 
 /// A column just above the ceiling of COD, oxygen and millimoles.
@@ -26,23 +27,24 @@ fn above() -> Plant {
 /// The conversions by themselves are those of the feed and the return.
 #[test]
 fn conversions_of_a_vector() {
-    let (d, told) = convert::asm_to_adm(&asm1(&[("xba", 1), ("sno", 3497)])).unwrap();
+    let (d, told) = convert::asm_to_adm(&HOUSE, &asm1(&[("xba", 1), ("sno", 3497)])).unwrap();
     assert_eq!(d, digester(&[("cn", 1), ("sin", 880)]));
     assert_eq!(told.numbers(), [1, 0, 3496, 1]);
     let d = digester(&[("xi", 8), ("xc", 2), ("sin", 6000), ("sh2", 3), ("sch4", 4)]);
     let v = asm1(&[("xi", 8), ("xs", 2), ("snh", 1760)]);
-    assert_eq!(convert::adm_to_asm(&d), Ok((v, 7)));
+    assert_eq!(convert::adm_to_asm(&HOUSE, &d), Ok((v, 7)));
 }
 
 /// A vector above a ceiling is refused by 3, before the shortages of nitrogen.
 #[test]
 fn conversions_refused() {
-    let feed = |named: &[(&str, u64)]| convert::asm_to_adm(&asm1(named)).map(|_| ()).unwrap_err();
+    let feed =
+        |named: &[(&str, u64)]| convert::asm_to_adm(&HOUSE, &asm1(named)).map(|_| ()).unwrap_err();
     assert_eq!(feed(&[("si", 1), ("snh", 279)]), Refusal::FeedNitrogenShort);
     assert_eq!(feed(&[("si", 1), ("salk", ABOVE_COD)]), Refusal::ColumnAboveCeiling);
     assert_eq!(feed(&[("xnd", ABOVE_TICKS)]), Refusal::ColumnAboveCeiling);
     assert_eq!(feed(&[("ss", u64::MAX), ("xs", u64::MAX)]), Refusal::ColumnAboveCeiling);
-    let back = |named: &[(&str, u64)]| convert::adm_to_asm(&digester(named)).unwrap_err();
+    let back = |named: &[(&str, u64)]| convert::adm_to_asm(&HOUSE, &digester(named)).unwrap_err();
     assert_eq!(back(&[("xi", 1), ("sin", 599)]), Refusal::ReturnNitrogenShort);
     assert_eq!(back(&[("xi", 1), ("co", ABOVE_COD)]), Refusal::ColumnAboveCeiling);
     assert_eq!(back(&[("cn", ABOVE_TICKS)]), Refusal::ColumnAboveCeiling);
@@ -53,12 +55,12 @@ fn conversions_refused() {
 #[test]
 fn conversions_above_the_ceilings_of_their_result() {
     let v = [("xs", COD_CEILING), ("xbh", COD_CEILING), ("xnd", TICK_CEILING)];
-    let (d, _) = convert::asm_to_adm(&asm1(&v)).unwrap();
+    let (d, _) = convert::asm_to_adm(&HOUSE, &asm1(&v)).unwrap();
     let sin = TICK_CEILING + (880 - 2 * 280) * COD_CEILING;
     assert_eq!(d, digester(&[("xc", 2 * COD_CEILING), ("sin", sin)]));
     assert_eq!(with_sludge(&v).feed(1000), Err(Refusal::DestinationAboveCeiling));
     let d = [("sva", COD_CEILING), ("sac", COD_CEILING)];
-    let (v, _) = convert::adm_to_asm(&digester(&d)).unwrap();
+    let (v, _) = convert::adm_to_asm(&HOUSE, &digester(&d)).unwrap();
     assert_eq!(v, asm1(&[("ss", 2 * COD_CEILING)]));
     assert_eq!(with_digester(&d).give_back(1000), Err(Refusal::DestinationAboveCeiling));
 }
@@ -143,9 +145,10 @@ fn closing_refusals_in_order() {
 /// Calls by numbers on a record: what is told where they are accepted, zeros where they are not.
 #[test]
 fn calls_on_a_record() {
-    let mut record = [u64::MAX; 52];
+    let mut record = [u64::MAX; 61];
     numbers::fresh(&mut record);
-    assert_eq!(record, [0; 52]);
+    assert_eq!(record[..52], [0; 52]);
+    assert_eq!(record[52..], [880, 880, 280, 280, 980, 875, 8000, 2000, 2500]);
     assert_eq!(numbers::receive(&mut record, &asm1(&[("xba", 3), ("sno", 3497)])), 0);
     let (mut four, mut one, mut v) = ([9; 4], [9], [9; 13]);
     assert_eq!((numbers::feed(&mut record, 1001, &mut four), four), (2, [0; 4]));
@@ -160,7 +163,7 @@ fn calls_on_a_record() {
     assert_eq!((numbers::release(&mut record, 0, &mut v), v), (2, [0; 13]));
     let released = asm1(&[("snh", 2640)]);
     assert_eq!((numbers::release(&mut record, 1000, &mut v), v), (0, released));
-    assert_eq!(record, [0; 52]);
+    assert_eq!(record, Plant::FRESH.columns());
 }
 
 /// On a record above a ceiling every call by numbers gives 1 and zeros, and changes nothing.
@@ -185,15 +188,18 @@ fn calls_on_a_record_above() {
 #[test]
 fn vectors_by_numbers() {
     let (mut d, mut v, mut four, mut one) = ([9; 26], [9; 13], [9; 4], [9]);
-    assert_eq!(numbers::asm_to_adm(&asm1(&[("xi", 10), ("so", 2)]), &mut d, &mut four), 0);
+    assert_eq!(
+        numbers::asm_to_adm(&HOUSE.numbers(), &asm1(&[("xi", 10), ("so", 2)]), &mut d, &mut four),
+        0
+    );
     assert_eq!(d, digester(&[("xi", 8), ("xc", 2), ("sin", 6000), ("co", 2)]));
     assert_eq!(four, [0, 0, 0, 1]);
-    assert_eq!(numbers::asm_to_adm(&asm1(&[("si", 1)]), &mut d, &mut four), 4);
+    assert_eq!(numbers::asm_to_adm(&HOUSE.numbers(), &asm1(&[("si", 1)]), &mut d, &mut four), 4);
     assert_eq!((d, four), ([0; 26], [0; 4]));
     let inert = digester(&[("xi", 1), ("sin", 600), ("sh2", 5)]);
-    assert_eq!(numbers::adm_to_asm(&inert, &mut v, &mut one), 0);
+    assert_eq!(numbers::adm_to_asm(&HOUSE.numbers(), &inert, &mut v, &mut one), 0);
     assert_eq!((v, one), (asm1(&[("xi", 1)]), [5]));
-    assert_eq!(numbers::adm_to_asm(&digester(&[("xi", 1)]), &mut v, &mut one), 5);
+    assert_eq!(numbers::adm_to_asm(&HOUSE.numbers(), &digester(&[("xi", 1)]), &mut v, &mut one), 5);
     assert_eq!((v, one), ([0; 13], [0]));
     let record = with_digester(&[("ssu", 5), ("sin", 7), ("cn", 3)]).columns();
     let (mut d, mut three) = (digester(&[("sac", 4), ("sin", 1)]), [9; 3]);
@@ -229,7 +235,8 @@ fn check_open(plant: &Plant, proposal: &Digester, refusal: Refusal, gap: Gap) {
     assert_eq!(refusal, expected);
     let old = &plant.digester;
     let gas = cod_digester(old).wrapping_sub(cod_digester(proposal)) as u64;
-    let sin = tkn_digester(old).wrapping_sub(tkn_but_sin(proposal)) as u64;
+    let bound = plant.figures.tkn_but_sin(proposal);
+    let sin = plant.figures.tkn_digester(old).wrapping_sub(bound) as u64;
     let mut nearest = *proposal;
     nearest[digester::CO] = old[digester::CO];
     nearest[digester::CN] = old[digester::CN];
@@ -244,7 +251,7 @@ fn check_open(plant: &Plant, proposal: &Digester, refusal: Refusal, gap: Gap) {
 /// How often each refusal (0 accepted) and each edge was met.
 #[derive(Default, Debug)]
 struct Met {
-    refusals: [u32; 13],
+    refusals: [u32; 16],
     /// A gap of one count: COD, TKN, sin.
     gaps_of_one: [u32; 3],
     /// What closes just so: no gas, no sin, and sin at its ceiling.
@@ -270,8 +277,7 @@ impl Met {
             }
             (Err(refusal), Err(other)) => {
                 assert_eq!(refusal, other);
-                let columns = [Refusal::RecordAboveCeiling, Refusal::ColumnAboveCeiling];
-                assert!(columns.contains(&refusal));
+                assert!(matches!(refusal as u64, 15 | 1 | 3));
                 self.refusals[refusal as usize] += 1;
             }
         }
@@ -286,10 +292,10 @@ fn settle_accepts_what_closes() {
     for number in 0..8000 {
         let mut trial = Trial::new(Random::nth(6, number));
         let mut plant = trial.record();
-        let proposal = proposals::to_close(&mut trial.random, &mut plant.digester);
+        let proposal = trial.to_close(&mut plant);
         met.try_one(&plant, &proposal);
     }
-    for refusal in [0, 1, 3, 7, 8] {
+    for refusal in [0, 1, 3, 7, 8, 15] {
         assert!(met.refusals[refusal] >= 200, "{met:?}");
     }
     assert_eq!(met.refusals.iter().sum::<u32>(), 8000);

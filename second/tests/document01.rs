@@ -5,6 +5,7 @@
 mod named;
 
 use named::{asm1, digester, with_digester, with_sludge};
+use second::figures::HOUSE;
 use second::lines::Asked;
 use second::plant::{Call, Plant, Refusal, Told};
 use second::tables::*;
@@ -26,11 +27,11 @@ fn printed(input: &[u8]) -> String {
 /// Checks a worked feed: told numbers (burnt, oxygen, nitrate, warn), the digester, both balances.
 fn fed(sludge: &[(&str, u64)], told: [u64; 4], expected: &[(&str, u64)]) {
     let v = asm1(sludge);
-    let (out, t) = convert::feed(&v).unwrap();
+    let (out, t) = convert::feed(&HOUSE, &v).unwrap();
     assert_eq!(t.numbers(), told);
     assert_eq!(out, digester(expected));
     assert_eq!(cod_asm1(&v), cod_digester(&out) + u128::from(t.burnt));
-    assert_eq!(tkn_asm1(&v), tkn_digester(&out));
+    assert_eq!(HOUSE.tkn_asm1(&v), HOUSE.tkn_digester(&out));
 }
 
 /// Oxygen and nitrate are reduced by ss, then xs; carbohydrate and lipid share one floor.
@@ -56,7 +57,7 @@ fn plants_c_and_d_amino_acids() {
 fn plants_e_and_f_inerts() {
     fed(&[("xi", 10)], [0; 4], &[("xi", 8), ("xc", 2), ("sin", 6000)]);
     fed(&[("si", 1), ("snh", 280)], [0; 4], &[("si", 1)]);
-    let short = convert::feed(&asm1(&[("si", 1), ("snh", 279)]));
+    let short = convert::feed(&HOUSE, &asm1(&[("si", 1), ("snh", 279)]));
     assert_eq!(short.unwrap_err(), Refusal::FeedNitrogenShort);
 }
 
@@ -77,11 +78,11 @@ fn plant_i_composites() {
 /// Returned inerts take their nitrogen in turn, or are refused.
 #[test]
 fn plants_j_and_k_return() {
-    let j = convert::give_back(&digester(&[("xi", 8), ("xc", 2), ("sin", 6000)]));
+    let j = convert::give_back(&HOUSE, &digester(&[("xi", 8), ("xc", 2), ("sin", 6000)]));
     assert_eq!(j.unwrap(), (asm1(&[("xi", 8), ("xs", 2), ("snh", 1760)]), 0));
-    let k = convert::give_back(&digester(&[("xi", 1), ("sin", 600)]));
+    let k = convert::give_back(&HOUSE, &digester(&[("xi", 1), ("sin", 600)]));
     assert_eq!(k.unwrap(), (asm1(&[("xi", 1)]), 0));
-    let short = convert::give_back(&digester(&[("xi", 1), ("sin", 599)]));
+    let short = convert::give_back(&HOUSE, &digester(&[("xi", 1), ("sin", 599)]));
     assert_eq!(short.unwrap_err(), Refusal::ReturnNitrogenShort);
 }
 
@@ -89,13 +90,13 @@ fn plants_j_and_k_return() {
 #[test]
 fn return_sums_its_groups() {
     let v: Digester = std::array::from_fn(|column| 1 << column);
-    let (out, stripped) = convert::give_back(&v).unwrap();
+    let (out, stripped) = convert::give_back(&HOUSE, &v).unwrap();
     assert_eq!(stripped, (1 << 8) + (1 << 9));
     assert_eq!(out[asm1::SS], (1 << 8) - (1 << 1));
     assert_eq!(out[asm1::XS], (1 << 22) - (1 << 11));
     assert_eq!([out[asm1::SI], out[asm1::XI]], [1, 1 << 10]);
     assert_eq!([out[asm1::SALK], out[asm1::SO], out[asm1::SNO]], [1 << 23, 1 << 24, 1 << 25]);
-    assert_eq!(tkn_asm1(&out), tkn_digester(&v));
+    assert_eq!(HOUSE.tkn_asm1(&out), HOUSE.tkn_digester(&v));
 }
 
 /// The session of document 01, with and without its final newline.
@@ -348,7 +349,8 @@ fn bytes_behind_the_answer() {
 /// The held line, and that of a record that is itself refused.
 #[test]
 fn held_line() {
-    let mut plant = Plant { sludge: [1; 13], digester: [10; 26], reject: [100; 13] };
+    let mut plant =
+        Plant { sludge: [1; 13], digester: [10; 26], reject: [100; 13], figures: HOUSE };
     let mut buffer = [0; 512];
     let tkn = 101 * (3 + 4 * 880) + 10 * (1 + 280 + 560 + 1960 + 7 * 875);
     let expected = format!("(held cod {} tkn {tkn} oxygen 111 nitrate 111)", 101 * 7 + 220);

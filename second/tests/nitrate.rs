@@ -4,6 +4,7 @@
 //! grid, and on the vectors of the random trials, where equality has to be met as well.
 
 use second::convert;
+use second::figures::{Figures, HOUSE};
 use second::plant::{draw, Call};
 use second::random::Random;
 use second::tables::asm1::*;
@@ -19,7 +20,7 @@ fn vector(columns: &[(usize, u64)]) -> Asm1 {
 
 /// What a feed of a vector tells: burnt, oxygen, nitrate and warn.
 fn told(v: &Asm1) -> [u64; 4] {
-    convert::feed(v).unwrap().1.numbers()
+    convert::feed(&HOUSE, v).unwrap().1.numbers()
 }
 
 /// What a feed tells of so much COD beside this oxygen, all of which is reduced, and this nitrate.
@@ -94,12 +95,12 @@ struct Met {
 impl Met {
     /// Checks the two facts on a vector within its ceilings, and what the feed makes by them, in
     /// whole numbers without a ceiling; counts the vector.
-    fn check(&mut self, v: &Asm1) {
+    fn check(&mut self, figures: &Figures, v: &Asm1) {
         let available: u128 = [SS, XS, XBH, XBA].map(|column| u128::from(v[column])).iter().sum();
         let cod = 1_000_000 * available.saturating_sub(v[SO].into());
         let nitrate = 286 * u128::from(v[SNO]);
         let burn = convert::burn(v);
-        let fed = convert::feed(v).ok().map(|(out, _)| out);
+        let fed = convert::feed(figures, v).ok().map(|(out, _)| out);
         if nitrate <= cod {
             assert_eq!(burn.nitrate, v[SNO], "{v:?}");
             assert!(fed.is_none_or(|out| out[digester::CN] == 0), "{v:?}");
@@ -147,7 +148,7 @@ fn on_a_grid() {
             let around = [most.saturating_sub(1), most, most + 1];
             for sno in around.into_iter().chain([0, 1, TICK_CEILING - 1, TICK_CEILING]) {
                 v[SNO] = sno.min(TICK_CEILING);
-                met.check(&v);
+                met.check(&HOUSE, &v);
             }
         }
     }
@@ -165,10 +166,10 @@ fn on_random_vectors() {
         for _ in 0..100 {
             let call = trial.call(&plant);
             if let (Call::Feed(k @ 1..=1000), Ok(())) = (&call, plant.test_record()) {
-                drawn.check(&draw(&plant.sludge, *k));
+                drawn.check(&plant.figures, &draw(&plant.sludge, *k));
                 let v = trial.asm1(&plant);
                 if within(&v, &ASM1_CEILINGS) {
-                    whole.check(&v);
+                    whole.check(&plant.figures, &v);
                 }
             }
             let _ = plant.call(&call);

@@ -7,6 +7,7 @@ mod named;
 
 use named::{asm1, digester, with_digester, with_sludge};
 use second::balances::{numbers_in, Balances};
+use second::figures::HOUSE;
 use second::lines::{Asked, LONGEST_LINE};
 use second::plant::{Call, Plant};
 use second::random::Random;
@@ -119,7 +120,7 @@ fn release_leaves_the_tank() {
         format!("(ok release{})", fields.collect::<String>())
     };
     let reject = std::array::from_fn(|column| 2 * column as u64 + 1);
-    let before = Plant { sludge: [7; 13], digester: [5; 26], reject };
+    let before = Plant { sludge: [7; 13], digester: [5; 26], reject, figures: HOUSE };
     let half = std::array::from_fn(|column| column as u64);
     let after = Plant { reject: half.map(|column| column + 1), ..before };
     seen(before, "(release 500)", &answer_of(half), after);
@@ -426,7 +427,7 @@ fn place(call: &Call) -> usize {
 #[derive(Default, Debug)]
 struct Met {
     accepted: [u32; 6],
-    refused: [u32; 12],
+    refused: [u32; 16],
 }
 
 impl Met {
@@ -440,7 +441,7 @@ impl Met {
 
     /// Asks that each was met so often; refusal 6 is never met.
     fn ask(&self, often: u32) {
-        let refused = [1, 2, 3, 4, 5, 7, 8, 9, 10, 11].map(|number| self.refused[number]);
+        let refused = [1, 2, 3, 4, 5, 7, 8, 9, 10, 11, 15].map(|number| self.refused[number]);
         assert!(self.accepted.iter().chain(&refused).all(|&count| count >= often), "{self:?}");
         assert_eq!(self.refused[6], 0);
     }
@@ -506,8 +507,7 @@ type Outcome = (Plant, Vec<u8>, Balances, Vec<Vec<u8>>);
 
 /// Makes the calls of a list, with this look at each line, the record before it, and its answer.
 fn run(start: Plant, list: &[Vec<u8>], mut look: impl FnMut(usize, &Plant, &[u8])) -> Outcome {
-    let held = start.held().map_or([0; 4], |held| held.numbers());
-    let (mut plant, mut balances, mut answers) = (start, Balances::on(held), Vec::new());
+    let (mut plant, mut balances, mut answers) = (start, Balances::on(&start), Vec::new());
     for (number, line) in list.iter().enumerate() {
         let before = plant;
         let answer = answer(&mut plant, line);

@@ -1,5 +1,5 @@
 -- The balances over a list of calls: document 01, "Demand 3", and document 02, E1 (a recycle is neither received nor released), E3 (a
--- preview counts for nothing) and E6 (a sheet counts by its counts).
+-- preview counts for nothing), E6 (a sheet counts by its counts) and E7 (the figures are the record's own).
 --
 --   Entry        what stands in a list: a call, a preview of one, or a laboratory sheet
 --   entry        an entry by whether it is a preview
@@ -18,17 +18,19 @@
 --                                           proofs/Laws/Balance.antt proves it: previews-skipped
 --   sheets_as_calls, SheetLaw                 a list with its sheets as receives of their counts, likewise.
 --                                           proofs/Laws/Balance.antt proves it: sheets-as-calls
+--   StayLaw                                 after a list the record has the figures that it was made with.
+--                                           proofs/Laws/Balance.antt proves it: figures-stay
 --   RecycleLaw                              a recycle, refused or not, leaves what is in the three tanks together as it was.
 --                                           proofs/Laws/Balance.antt proves it: recycle-holds
---   Balanced, BalanceLaw                    the four balances, for every list of calls, previews and sheets and every permitted set of
---                                           figures.
+--   Balanced, BalanceLaw                    the four balances, for every list of calls, previews and sheets on a fresh record of any
+--                                           permitted set of figures; of a set that is not permitted too, where each call is refused
+--                                           and each sum is zero.
 --                                           proofs/Laws/Balance.antt proves it: balance
 --
 -- A list holds everything that is handed to its calls, previews and sheets: any k, any gas, any vector and any entries of any length,
 -- honest or not. Its sums are whole numbers without a ceiling.
 use Rattle.std.specs.Prelude.{Bool, true, false, cond, List, [], ◌∷◌, ◌≡◌, ℕ, ◌+◌, Float, is_none}
 use Rattle.vectors.specs.declared.figures.Figures.{Figures}
-use Rattle.vectors.specs.Figures.{Permitted}
 use Rattle.vectors.specs.Totals.{asm1_cod, asm1_tkn, asm1_oxygen, asm1_nitrate}
 use Rattle.plant.specs.declared.record.Plant.{Plant}
 use Rattle.plant.specs.declared.answer.Answer.{Answer}
@@ -54,21 +56,21 @@ pub data Entry : Type 0 where
 abbrev pub entry : Bool → Request → Entry
 entry b r = cond b (previews r) (calls r)
 
-abbrev pub after : Figures → Plant → List Entry → Plant
-after f p [] = p
-after f p (calls r ∷ es) = after f (step f p r).plant es
-after f p (previews r ∷ es) = after f (preview_of f p r).plant es
-after f p (sheets s ∷ es) = after f (sheet_step f p s).plant es
+abbrev pub after : Plant → List Entry → Plant
+after p [] = p
+after p (calls r ∷ es) = after (step p r).plant es
+after p (previews r ∷ es) = after (preview_of p r).plant es
+after p (sheets s ∷ es) = after (sheet_step p s).plant es
 
 -- a sheet of which no column is bad adds what the receive of its counts adds
-abbrev pub sheet_adds : (Request → Outcome → ℕ) → Figures → Plant → List (Finding Float) → ℕ
-sheet_adds of f p s = let r = receiving (counts_of s) in cond (is_none (refusal_in s)) (of r (step f p r)) 0
+abbrev pub sheet_adds : (Request → Outcome → ℕ) → Plant → List (Finding Float) → ℕ
+sheet_adds of p s = let r = receiving (counts_of s) in cond (is_none (refusal_in s)) (of r (step p r)) 0
 
-abbrev pub sum_over : (Request → Outcome → ℕ) → Figures → Plant → List Entry → ℕ
-sum_over of f p [] = 0
-sum_over of f p (calls r ∷ es) = of r (step f p r) + sum_over of f (step f p r).plant es
-sum_over of f p (previews r ∷ es) = sum_over of f (preview_of f p r).plant es
-sum_over of f p (sheets s ∷ es) = sheet_adds of f p s + sum_over of f (sheet_step f p s).plant es
+abbrev pub sum_over : (Request → Outcome → ℕ) → Plant → List Entry → ℕ
+sum_over of p [] = 0
+sum_over of p (calls r ∷ es) = of r (step p r) + sum_over of (step p r).plant es
+sum_over of p (previews r ∷ es) = sum_over of (preview_of p r).plant es
+sum_over of p (sheets s ∷ es) = sheet_adds of p s + sum_over of (sheet_step p s).plant es
 
 -- ---- what one call adds to the sums, by the call and its answer alone
 
@@ -107,50 +109,54 @@ released_by total r o = if_accepted o (cond (counts r.call).released (total o.ve
 abbrev pub gas_by : Request → Outcome → ℕ
 gas_by r o = if_accepted o (counts r.call).gas
 
--- ---- the sums, from a fresh record
+-- ---- the sums, from a fresh record of the figures f
 
 module _ (f : Figures) (es : List Entry) where
   abbrev pub received : (List ℕ → ℕ) → ℕ
-  received total = sum_over (received_by total) f fresh_plant es
+  received total = sum_over (received_by total) (fresh_plant f) es
 
   abbrev pub released : (List ℕ → ℕ) → ℕ
-  released total = sum_over (released_by total) f fresh_plant es
+  released total = sum_over (released_by total) (fresh_plant f) es
 
   abbrev pub burnt : ℕ
-  burnt = sum_over (λ r o. (told o.answer).burnt) f fresh_plant es
+  burnt = sum_over (λ r o. (told o.answer).burnt) (fresh_plant f) es
 
   abbrev pub oxygen_reduced : ℕ
-  oxygen_reduced = sum_over (λ r o. (told o.answer).oxygen) f fresh_plant es
+  oxygen_reduced = sum_over (λ r o. (told o.answer).oxygen) (fresh_plant f) es
 
   abbrev pub nitrate_reduced : ℕ
-  nitrate_reduced = sum_over (λ r o. (told o.answer).nitrate) f fresh_plant es
+  nitrate_reduced = sum_over (λ r o. (told o.answer).nitrate) (fresh_plant f) es
 
   abbrev pub gas : ℕ
-  gas = sum_over gas_by f fresh_plant es
+  gas = sum_over gas_by (fresh_plant f) es
 
   abbrev pub stripped : ℕ
-  stripped = sum_over (λ r o. (told o.answer).stripped) f fresh_plant es
+  stripped = sum_over (λ r o. (told o.answer).stripped) (fresh_plant f) es
 
 -- ---- the claims
 
 pub record Balanced (f : Figures) (es : List Entry) : Type 0 where
-  pub cod : received f es asm1_cod ≡ cod_in (after f fresh_plant es) + released f es asm1_cod + burnt f es + gas f es + stripped f es
-  pub tkn : received f es (asm1_tkn f) ≡ tkn_in f (after f fresh_plant es) + released f es (asm1_tkn f)
-  pub oxygen : received f es asm1_oxygen ≡ oxygen_in (after f fresh_plant es) + released f es asm1_oxygen + oxygen_reduced f es
-  pub nitrate : received f es asm1_nitrate ≡ nitrate_in (after f fresh_plant es) + released f es asm1_nitrate + nitrate_reduced f es
+  pub cod : received f es asm1_cod ≡ cod_in (after (fresh_plant f) es) + released f es asm1_cod + burnt f es + gas f es + stripped f es
+  pub tkn : received f es (asm1_tkn f) ≡ tkn_in (after (fresh_plant f) es) + released f es (asm1_tkn f)
+  pub oxygen : received f es asm1_oxygen ≡ oxygen_in (after (fresh_plant f) es) + released f es asm1_oxygen + oxygen_reduced f es
+  pub nitrate : received f es asm1_nitrate ≡ nitrate_in (after (fresh_plant f) es) + released f es asm1_nitrate + nitrate_reduced f es
 
 abbrev pub BalanceLaw : Type 0
-BalanceLaw = (f : Figures) → Permitted f → (es : List Entry) → Balanced f es
+BalanceLaw = (f : Figures) (es : List Entry) → Balanced f es
+
+-- document 02, E7: no call, preview or sheet changes the figures
+abbrev pub StayLaw : Type 0
+StayLaw = (p : Plant) (es : List Entry) → (after p es).figures ≡ p.figures
 
 -- document 02, E1: recycling adds no term
-pub record SameHeld (f : Figures) (p q : Plant) : Type 0 where
+pub record SameHeld (p q : Plant) : Type 0 where
   pub cod : cod_in p ≡ cod_in q
-  pub tkn : tkn_in f p ≡ tkn_in f q
+  pub tkn : tkn_in p ≡ tkn_in q
   pub oxygen : oxygen_in p ≡ oxygen_in q
   pub nitrate : nitrate_in p ≡ nitrate_in q
 
 abbrev pub RecycleLaw : Type 0
-RecycleLaw = (f : Figures) → Permitted f → (p : Plant) (k : ℕ) → SameHeld f p (step f p (recycling k)).plant
+RecycleLaw = (p : Plant) (k : ℕ) → SameHeld p (step p (recycling k)).plant
 
 -- document 02, E3: previews may stand anywhere in a list
 abbrev pub without_previews : List Entry → List Entry
@@ -159,12 +165,12 @@ without_previews (calls r ∷ es) = calls r ∷ without_previews es
 without_previews (previews r ∷ es) = without_previews es
 without_previews (sheets s ∷ es) = sheets s ∷ without_previews es
 
-pub record SameList (f : Figures) (p : Plant) (ds es : List Entry) : Type 0 where
-  pub plant : after f p ds ≡ after f p es
-  pub sums : (of : Request → Outcome → ℕ) → sum_over of f p ds ≡ sum_over of f p es
+pub record SameList (p : Plant) (ds es : List Entry) : Type 0 where
+  pub plant : after p ds ≡ after p es
+  pub sums : (of : Request → Outcome → ℕ) → sum_over of p ds ≡ sum_over of p es
 
 abbrev pub SkipLaw : Type 0
-SkipLaw = (f : Figures) (p : Plant) (es : List Entry) → SameList f p es (without_previews es)
+SkipLaw = (p : Plant) (es : List Entry) → SameList p es (without_previews es)
 
 -- document 02, E6: the balances start from the counts
 abbrev pub sheets_as_calls : List Entry → List Entry
@@ -174,4 +180,4 @@ sheets_as_calls (previews r ∷ es) = previews r ∷ sheets_as_calls es
 sheets_as_calls (sheets s ∷ es) = cond (is_none (refusal_in s)) (calls (receiving (counts_of s)) ∷ sheets_as_calls es) (sheets_as_calls es)
 
 abbrev pub SheetLaw : Type 0
-SheetLaw = (f : Figures) (p : Plant) (es : List Entry) → SameList f p es (sheets_as_calls es)
+SheetLaw = (p : Plant) (es : List Entry) → SameList p es (sheets_as_calls es)

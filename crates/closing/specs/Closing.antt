@@ -13,11 +13,11 @@
 --   OnlyLaw                    and where some would do, close gives them: there are no others
 --   GapLaw                     close is accepted exactly where the gaps are zero
 --
--- proofs/Laws/Closing.antt proves the four laws: close-law, none-law, only-law, gap-law. f is the set of figures; the code has the house
--- set.
-use Rattle.std.specs.Prelude.{true, List, [], ◌∷◌, ◌≡◌, ℕ, ◌-◌, eqb, length, Option, Result, Ok, Err}
+-- proofs/Laws/Closing.antt proves the four laws: close-law, none-law, only-law, gap-law. f is a set of figures, that of
+-- the record.
+use Rattle.std.specs.Prelude.{true, List, [], ◌∷◌, ◌≡◌, ℕ, ◌-◌, eqb, length, Option, None, Result, Ok, Err}
 use Rattle.refusals.specs.declared.Refusal.{Refusal}
-use Rattle.refusals.specs.declared.Refusal.TheVariants.{RecordAbove, ColumnAbove, CodOpen, TknOpen}
+use Rattle.refusals.specs.declared.Refusal.TheVariants.{ColumnAbove, CodOpen, TknOpen}
 use Rattle.refusals.specs.Tests.{unless, first, decide}
 use Rattle.vectors.specs.declared.figures.Figures.{Figures}
 use Rattle.vectors.specs.declared.units.Milligrams.{Milligrams}
@@ -25,7 +25,7 @@ use Rattle.vectors.specs.Columns.{Digester, digester, digester_columns, digester
 use Rattle.vectors.specs.Totals.{digester_cod, digester_tkn, digester_oxygen, digester_nitrate}
 use Rattle.vectors.specs.Units.{milligrams, ticks}
 use Rattle.plant.specs.declared.record.Plant.{Plant}
-use Rattle.plant.specs.Record.{record_within}
+use Rattle.plant.specs.Record.{record_refusal}
 use Rattle.plant.specs.Calls.{refusal_for, settling}
 use Rattle.closing.specs.declared.Closed.{Closed}
 use Rattle.closing.specs.declared.Gaps.{Gaps}
@@ -99,10 +99,10 @@ gap_between f old d =
     gaps (digester_cod d - digester_cod old) (other_tkn f d - digester_tkn f old) (closing_sin f old d - tick_ceiling)
 
 abbrev pub gap_tests : Plant → List ℕ → List (Option Refusal)
-gap_tests p d = unless (record_within p) RecordAbove ∷ unless (within digester_ceilings d) ColumnAbove ∷ []
+gap_tests p d = record_refusal p ∷ unless (within digester_ceilings d) ColumnAbove ∷ []
 
-unfoldable pub gap_of : Figures → Plant → List ℕ → Result Gaps Refusal
-gap_of f p d = decide (first (gap_tests p d)) (gap_between f p.digester d)
+unfoldable pub gap_of : Plant → List ℕ → Result Gaps Refusal
+gap_of p d = decide (first (gap_tests p d)) (gap_between p.figures p.digester d)
 
 -- ---- close
 
@@ -123,44 +123,44 @@ abbrev pub close_by : Result Gaps Refusal → Closed → Result Closed Refusal
 close_by (Ok g) c = decide (first (close_tests g)) c
 close_by (Err r) c = Err r
 
-unfoldable pub close_of : Figures → Plant → List ℕ → Result Closed Refusal
-close_of f p d = close_by (gap_of f p d) (close_taken f p.digester d)
+unfoldable pub close_of : Plant → List ℕ → Result Closed Refusal
+close_of p d = close_by (gap_of p d) (close_taken p.figures p.digester d)
 
 -- ---- the claims
 
-pub record Closes (f : Figures) (p : Plant) (d : List ℕ) (c : Closed) : Type 0 where
-  pub settles : refusal_for f p (settling c.gas c.vector) ≡ 0
+pub record Closes (p : Plant) (d : List ℕ) (c : Closed) : Type 0 where
+  pub settles : refusal_for p (settling c.gas c.vector) ≡ 0
   pub keeps : SameBut c.vector d
 
 abbrev pub CloseLaw : Type 0
-CloseLaw = (f : Figures) (p : Plant) (d : List ℕ) (c : Closed) → close_of f p d ≡ Ok c → Closes f p d c
+CloseLaw = (p : Plant) (d : List ℕ) (c : Closed) → close_of p d ≡ Ok c → Closes p d c
 
--- the record and the proposed columns are within their ceilings, so that a refusal is 7, 8, or 3 for the sin that closes
+-- nothing sends the record away and the proposed columns are within their ceilings, so that a refusal is 7, 8, or 3 for the sin that closes
 abbrev pub NoneLaw : Type 0
 NoneLaw =
-    (f : Figures) (p : Plant) (d : List ℕ)
-    → record_within p ≡ true
+    (p : Plant) (d : List ℕ)
+    → record_refusal p ≡ None
     → within digester_ceilings d ≡ true
     → (r : Refusal)
-    → close_of f p d ≡ Err r
+    → close_of p d ≡ Err r
     → (gas : Milligrams) (e : List ℕ)
     → SameBut e d
-    → refusal_for f p (settling gas e) ≡ 0
+    → refusal_for p (settling gas e) ≡ 0
     → ⊥
 
 abbrev pub OnlyLaw : Type 0
 OnlyLaw =
-    (f : Figures) (p : Plant) (d : List ℕ)
+    (p : Plant) (d : List ℕ)
     → within digester_ceilings d ≡ true
     → (gas : Milligrams) (e : List ℕ)
     → length e ≡ 26
     → SameBut e d
-    → refusal_for f p (settling gas e) ≡ 0
-    → close_of f p d ≡ Ok (record { gas = gas; vector = e })
+    → refusal_for p (settling gas e) ≡ 0
+    → close_of p d ≡ Ok (record { gas = gas; vector = e })
 
-pub record GapIs (f : Figures) (p : Plant) (d : List ℕ) : Type 0 where
-  pub none : (c : Closed) → close_of f p d ≡ Ok c → gap_of f p d ≡ Ok no_gap
-  pub closes : gap_of f p d ≡ Ok no_gap → close_of f p d ≡ Ok (close_taken f p.digester d)
+pub record GapIs (p : Plant) (d : List ℕ) : Type 0 where
+  pub none : (c : Closed) → close_of p d ≡ Ok c → gap_of p d ≡ Ok no_gap
+  pub closes : gap_of p d ≡ Ok no_gap → close_of p d ≡ Ok (close_taken p.figures p.digester d)
 
 abbrev pub GapLaw : Type 0
-GapLaw = (f : Figures) (p : Plant) (d : List ℕ) → GapIs f p d
+GapLaw = (p : Plant) (d : List ℕ) → GapIs p d

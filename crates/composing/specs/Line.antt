@@ -14,7 +14,6 @@
 --   TextLengthLaw                       it has at most 1,024 bytes: entry-length
 --   TextLineLaw                         no newline stands in it: entry-one
 use Rattle.std.specs.Prelude.{Bool, true, false, cond, not, ◌&&◌, Option, List, [], ◌∷◌, ◌++◌, ◌≡◌, ℕ, ◌≤◌, eqb, length, get_or, replicate}
-use Rattle.vectors.specs.declared.figures.Figures.{Figures}
 use Rattle.plant.specs.declared.record.Plant.{Plant}
 use Rattle.plant.specs.declared.answer.Call.{Call}
 use Rattle.plant.specs.declared.answer.Call.TheVariants.{Receive, Feed, Settle, Return, Release, Recycle}
@@ -92,11 +91,11 @@ pub record Holds (r : Request) : Type 0 where
 abbrev pub TextReadLaw : Type 0
 TextReadLaw = (b : Bool) (r : Request) → Holds r → read_line (entry_text b r) ≡ asked b r
 
--- with any figures f, on any record p, in any buffer of m bytes that an answer fits in
+-- on any record p, whatever its figures, in any buffer of m bytes that an answer fits in
 abbrev pub TextGivesLaw : Type 0
 TextGivesLaw =
-    (f : Figures) (m : ℕ) (p : Plant) (b : Bool) (r : Request) → Holds r → 512 ≤ m
-    → line_outcome f m p (entry_text b r) ≡ outcome_by f p b r
+    (m : ℕ) (p : Plant) (b : Bool) (r : Request) → Holds r → 512 ≤ m
+    → line_outcome m p (entry_text b r) ≡ outcome_by p b r
 
 -- ---- the only such line
 

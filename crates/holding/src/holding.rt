@@ -1,12 +1,11 @@
 // What is in the three tanks.
 ghost use Rattle.std.specs.Prelude.{◌≡◌};
-ghost use Rattle.vectors.specs.Figures.{house};
 ghost use Rattle.plant.specs.Tanks.{cod_in, tkn_in, oxygen_in, nitrate_in};
 ghost use Rattle.holding.specs.Held.{RecordBelow, held_of};
 
-use plant::{Plant, record_within};
-use refusals::{Refusal, unless};
-use vectors::{HOUSE, Milligrams, Ticks, Unit};
+use plant::Plant;
+use refusals::Refusal;
+use vectors::{Milligrams, Ticks, Unit};
 
 // COD, TKN, oxygen and nitrate of all three tanks.
 #[derive(Clone, Copy)]
@@ -17,11 +16,11 @@ pub struct HeldTotals {
     pub nitrate: Ticks,
 }
 
-// Refusal 1.
+// Refusals 15 and 1.
 pub fn held(plant: Plant) -> Result<HeldTotals, Refusal>
-    ensures { result ≡ held_of house plant }
+    ensures { result ≡ held_of plant }
 {
-    unless(record_within(plant), Refusal::RecordAbove)?;
+    plant::usable(plant)?;
     let tanks = Tanks { plant };
     Ok(HeldTotals {
         cod: tanks.cod(),
@@ -31,7 +30,7 @@ pub fn held(plant: Plant) -> Result<HeldTotals, Refusal>
     })
 }
 
-// A record within its ceilings, so that the sums fit.
+// A record of permitted figures within its ceilings, so that the sums fit.
 #[derive(Clone, Copy)]
 struct Tanks {
     plant: Plant,
@@ -49,11 +48,12 @@ impl Tanks {
     }
 
     fn tkn(self) -> Ticks
-        ensures { result.0 ≡ tkn_in house self.plant }
+        ensures { result.0 ≡ tkn_in self.plant }
     {
-        vectors::tkn(HOUSE, self.plant.sludge)
-            .plus(vectors::tkn(HOUSE, self.plant.digester))
-            .plus(vectors::tkn(HOUSE, self.plant.reject))
+        let f = self.plant.figures;
+        vectors::tkn(f, self.plant.sludge)
+            .plus(vectors::tkn(f, self.plant.digester))
+            .plus(vectors::tkn(f, self.plant.reject))
     }
 
     // so of sludge and reject, and co of the digester.

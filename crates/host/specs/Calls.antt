@@ -1,4 +1,4 @@
--- The calls that a host has: each is a call of a layer below, on the record that the host's 52 columns stand for.
+-- The calls that a host has: each is a call of a layer below, on the record that the host's 61 numbers stand for.
 --
 --   LineCalled                       the call on a line: the columns behind it, the answer's bytes and the whole buffer
 --   HeldCalled                       the held line: its bytes and the whole buffer
@@ -8,6 +8,7 @@
 --   four_of, stripped_of             what a feed tells, and a return
 --   number_in, told_in               the number of a refusal, or 0; the numbers that are told, or zeros
 --   SheetCalled                      a laboratory sheet, with the four numbers that it tells (unseen_of)
+--   MadeCalled                       a record made of nine figures: its columns and the refusal's number
 --   TotalsCalled                     what is in the tanks, by numbers
 --   AsmToAdmCalled, AdmToAsmCalled   the conversions of a vector by itself
 --   CloseCalled, GapCalled           a proposal closed, and how far off it is
@@ -17,11 +18,12 @@ use Rattle.std.specs.Prelude.{not, replicate, List, [], ◌∷◌, ◌++◌, ◌
 use Rattle.std.specs.Result.{result_err}
 use Rattle.refusals.specs.declared.Refusal.{Refusal}
 use Rattle.refusals.specs.Refusal.{number_of}
-use Rattle.vectors.specs.declared.figures.Figures.{Figures}
+use Rattle.vectors.specs.Figures.{figures_of}
 use Rattle.interface.specs.declared.feed.Fed.{Fed}
 use Rattle.interface.specs.declared.returning.Returned.{Returned}
 use Rattle.interface.specs.Whole.{asm_to_adm, adm_to_asm}
 use Rattle.plant.specs.Answer.{told}
+use Rattle.plant.specs.Record.{made}
 use Rattle.plant.specs.declared.answer.Outcome.{Outcome}
 use Rattle.plant.specs.declared.answer.Request.{Request}
 use Rattle.plant.specs.Calls.{step}
@@ -41,12 +43,12 @@ use Rattle.host.specs.Record.{plant_at, columns_at}
 
 -- ---- by text
 
-pub record LineCalled (f : Figures) (cs s d : List ℕ) (r : ℕ) (es e : List ℕ) : Type 0 where
-  pub columns : es ≡ columns_at (line_outcome f (length d) (plant_at cs) s).plant
-  pub text : Answered d (line_text f (length d) (plant_at cs) s) r e
+pub record LineCalled (cs s d : List ℕ) (r : ℕ) (es e : List ℕ) : Type 0 where
+  pub columns : es ≡ columns_at (line_outcome (length d) (plant_at cs) s).plant
+  pub text : Answered d (line_text (length d) (plant_at cs) s) r e
 
-pub record HeldCalled (f : Figures) (cs d : List ℕ) (r : ℕ) (e : List ℕ) : Type 0 where
-  pub text : Answered d (fitting (length d) (held_text (held_of f (plant_at cs)))) r e
+pub record HeldCalled (cs d : List ℕ) (r : ℕ) (e : List ℕ) : Type 0 where
+  pub text : Answered d (fitting (length d) (held_text (held_of (plant_at cs)))) r e
 
 -- the line of the request q, or of its preview where n is not 0
 pub record Composed (q : Request) (n : ℕ) (d : List ℕ) (r : ℕ) (e : List ℕ) : Type 0 where
@@ -55,14 +57,14 @@ pub record Composed (q : Request) (n : ℕ) (d : List ℕ) (r : ℕ) (e : List �
 
 -- ---- the record's calls by numbers: q is the request
 
-pub record Called (f : Figures) (cs : List ℕ) (q : Request) (r : ℕ) (es : List ℕ) : Type 0 where
-  pub columns : es ≡ columns_at (step f (plant_at cs) q).plant
-  pub refusal : r ≡ (told (step f (plant_at cs) q).answer).number
+pub record Called (cs : List ℕ) (q : Request) (r : ℕ) (es : List ℕ) : Type 0 where
+  pub columns : es ≡ columns_at (step (plant_at cs) q).plant
+  pub refusal : r ≡ (told (step (plant_at cs) q).answer).number
 
 -- `out` takes what is told or handed out from the outcome; a refusal has zeros there
-pub record CalledOut (f : Figures) (cs : List ℕ) (q : Request) (out : Outcome → List ℕ) (r : ℕ) (es ts : List ℕ) : Type 0 where
-  pub call : Called f cs q r es
-  pub told : ts ≡ out (step f (plant_at cs) q)
+pub record CalledOut (cs : List ℕ) (q : Request) (out : Outcome → List ℕ) (r : ℕ) (es ts : List ℕ) : Type 0 where
+  pub call : Called cs q r es
+  pub told : ts ≡ out (step (plant_at cs) q)
 
 -- burnt, oxygen, nitrate and warn
 abbrev pub four_of : Outcome → List ℕ
@@ -90,10 +92,16 @@ abbrev pub unseen_of : Result Unseen Refusal → List ℕ
 unseen_of (Ok u) = u.milligrams.0 ∷ u.ticks.0 ∷ u.millimoles.0 ∷ u.unsampled ∷ []
 unseen_of (Err n) = 0 ∷ 0 ∷ 0 ∷ 0 ∷ []
 
-pub record SheetCalled (f : Figures) (cs : List ℕ) (s : List (Finding Float)) (r : ℕ) (es ts : List ℕ) : Type 0 where
-  pub columns : es ≡ columns_at (sheet_step f (plant_at cs) s).plant
-  pub refusal : r ≡ number_in (sheet_step f (plant_at cs) s).told
-  pub told : ts ≡ unseen_of (sheet_step f (plant_at cs) s).told
+pub record SheetCalled (cs : List ℕ) (s : List (Finding Float)) (r : ℕ) (es ts : List ℕ) : Type 0 where
+  pub columns : es ≡ columns_at (sheet_step (plant_at cs) s).plant
+  pub refusal : r ≡ number_in (sheet_step (plant_at cs) s).told
+  pub told : ts ≡ unseen_of (sheet_step (plant_at cs) s).told
+
+-- ---- a record made of the nine figures fs
+
+pub record MadeCalled (fs : List ℕ) (r : ℕ) (es : List ℕ) : Type 0 where
+  pub columns : es ≡ columns_at (made (figures_of fs)).plant
+  pub refusal : r ≡ number_of (made (figures_of fs)).refusal
 
 -- ---- what is in the tanks
 
@@ -101,11 +109,11 @@ abbrev pub totals_of : Result HeldTotals Refusal → List ℕ
 totals_of (Ok h) = h.cod.0 ∷ h.tkn.0 ∷ h.oxygen.0 ∷ h.nitrate.0 ∷ []
 totals_of (Err n) = 0 ∷ 0 ∷ 0 ∷ 0 ∷ []
 
-pub record TotalsCalled (f : Figures) (cs : List ℕ) (r : ℕ) (ts : List ℕ) : Type 0 where
-  pub refusal : r ≡ number_in (held_of f (plant_at cs))
-  pub told : ts ≡ totals_of (held_of f (plant_at cs))
+pub record TotalsCalled (cs : List ℕ) (r : ℕ) (ts : List ℕ) : Type 0 where
+  pub refusal : r ≡ number_in (held_of (plant_at cs))
+  pub told : ts ≡ totals_of (held_of (plant_at cs))
 
--- ---- the conversions of a vector by itself: v is handed over, and w comes out, which has zeros under a refusal
+-- ---- the conversions of a vector by itself, with the figures fs: v is handed over, and w comes out, which has zeros under a refusal
 
 abbrev pub fed_of : Result Fed Refusal → List ℕ
 fed_of (Ok o) = o.burnt.0 ∷ o.oxygen.0 ∷ o.nitrate.0 ∷ o.warn ∷ []
@@ -115,10 +123,10 @@ abbrev pub fed_vector : Result Fed Refusal → List ℕ
 fed_vector (Ok o) = o.vector
 fed_vector (Err n) = replicate 26 0
 
-pub record AsmToAdmCalled (f : Figures) (v : List ℕ) (r : ℕ) (w ts : List ℕ) : Type 0 where
-  pub refusal : r ≡ number_in (asm_to_adm f v)
-  pub vector : w ≡ fed_vector (asm_to_adm f v)
-  pub told : ts ≡ fed_of (asm_to_adm f v)
+pub record AsmToAdmCalled (fs v : List ℕ) (r : ℕ) (w ts : List ℕ) : Type 0 where
+  pub refusal : r ≡ number_in (asm_to_adm (figures_of fs) v)
+  pub vector : w ≡ fed_vector (asm_to_adm (figures_of fs) v)
+  pub told : ts ≡ fed_of (asm_to_adm (figures_of fs) v)
 
 abbrev pub stripped_in : Result Returned Refusal → List ℕ
 stripped_in (Ok o) = o.stripped.0 ∷ []
@@ -128,10 +136,10 @@ abbrev pub returned_vector : Result Returned Refusal → List ℕ
 returned_vector (Ok o) = o.vector
 returned_vector (Err n) = replicate 13 0
 
-pub record AdmToAsmCalled (f : Figures) (v : List ℕ) (r : ℕ) (w ts : List ℕ) : Type 0 where
-  pub refusal : r ≡ number_in (adm_to_asm f v)
-  pub vector : w ≡ returned_vector (adm_to_asm f v)
-  pub told : ts ≡ stripped_in (adm_to_asm f v)
+pub record AdmToAsmCalled (fs v : List ℕ) (r : ℕ) (w ts : List ℕ) : Type 0 where
+  pub refusal : r ≡ number_in (adm_to_asm (figures_of fs) v)
+  pub vector : w ≡ returned_vector (adm_to_asm (figures_of fs) v)
+  pub told : ts ≡ stripped_in (adm_to_asm (figures_of fs) v)
 
 -- ---- a proposal d
 
@@ -144,16 +152,16 @@ abbrev pub gas_in : Result Closed Refusal → List ℕ
 gas_in (Ok c) = c.gas.0 ∷ []
 gas_in (Err n) = 0 ∷ []
 
-pub record CloseCalled (f : Figures) (cs d : List ℕ) (r : ℕ) (w ts : List ℕ) : Type 0 where
-  pub refusal : r ≡ number_in (close_of f (plant_at cs) d)
-  pub vector : w ≡ vector_in d (close_of f (plant_at cs) d)
-  pub told : ts ≡ gas_in (close_of f (plant_at cs) d)
+pub record CloseCalled (cs d : List ℕ) (r : ℕ) (w ts : List ℕ) : Type 0 where
+  pub refusal : r ≡ number_in (close_of (plant_at cs) d)
+  pub vector : w ≡ vector_in d (close_of (plant_at cs) d)
+  pub told : ts ≡ gas_in (close_of (plant_at cs) d)
 
 -- COD too much, nitrogen too much, sin above its ceiling
 abbrev pub three_of : Result Gaps Refusal → List ℕ
 three_of (Ok g) = g.cod.0 ∷ g.tkn.0 ∷ g.sin.0 ∷ []
 three_of (Err n) = 0 ∷ 0 ∷ 0 ∷ []
 
-pub record GapCalled (f : Figures) (cs d : List ℕ) (r : ℕ) (ts : List ℕ) : Type 0 where
-  pub refusal : r ≡ number_in (gap_of f (plant_at cs) d)
-  pub told : ts ≡ three_of (gap_of f (plant_at cs) d)
+pub record GapCalled (cs d : List ℕ) (r : ℕ) (ts : List ℕ) : Type 0 where
+  pub refusal : r ≡ number_in (gap_of (plant_at cs) d)
+  pub told : ts ≡ three_of (gap_of (plant_at cs) d)

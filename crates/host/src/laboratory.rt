@@ -1,6 +1,5 @@
 // A laboratory sheet by kinds and values: two arrays, as C lends them.
 ghost use Rattle.std.specs.Prelude.{◌≡◌, Ok};
-ghost use Rattle.vectors.specs.Figures.{house};
 ghost use Rattle.host.specs.Calls.{unseen_of, SheetCalled};
 ghost use Rattle.host.specs.Sheet.{finding_of, sheet_at};
 
@@ -11,12 +10,12 @@ use sheets::Finding;
 // The sheet's call: the unseen milligrams, ticks and millimoles and the number not sampled are told.
 #[unsafe(no_mangle)]
 pub extern "C" fn jilghvani_sheet(
-    columns: &mut [u64; 52],
+    columns: &mut [u64; 61],
     kinds: &[u8; 13],
     values: &[f32; 13],
     told: &mut [u64; 4],
 ) -> u64
-    ensures { SheetCalled house columns.old (sheet_at kinds.now values.now)
+    ensures { SheetCalled columns.old (sheet_at kinds.now values.now)
         result columns.new told.new }
 {
     let o = sheets::receive_sheet(plant_at(columns), sheet_at(kinds, values));

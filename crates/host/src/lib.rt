@@ -1,4 +1,4 @@
-// The link for a host in C: functions on numbers and byte slices, whose record is 52 columns lent as a fixed array. ../../host/jilghvani.h
+// The link for a host in C: functions on numbers and byte slices, whose record is 61 numbers lent as a fixed array. ../../host/jilghvani.h
 // declares them for C. Nothing is kept between calls. Refusals go out as numbers and filled parts as counts: C has no Result and no slice.
 //
 //   text         the call on a line, and the held line
@@ -7,7 +7,7 @@
 //   laboratory   a laboratory sheet by kinds and values
 //   conversions  the two conversions of a vector by itself
 //   proposals    a proposal for settle: what closes it, and how far off it is
-//   record       52 columns and the plant record that they stand for
+//   record       61 numbers and the plant record that they stand for
 //   request      the requests of the calls by numbers
 //   told         the numbers that a call tells, or its refusal
 #![tactic(auto)]
@@ -29,8 +29,8 @@ pub use composed::{
 pub use conversions::{jilghvani_adm_to_asm, jilghvani_asm_to_adm};
 pub use laboratory::jilghvani_sheet;
 pub use numbers::{
-    jilghvani_feed, jilghvani_fresh, jilghvani_receive, jilghvani_recycle, jilghvani_release,
-    jilghvani_return, jilghvani_settle, jilghvani_totals,
+    jilghvani_feed, jilghvani_fresh, jilghvani_make, jilghvani_receive, jilghvani_recycle,
+    jilghvani_release, jilghvani_return, jilghvani_settle, jilghvani_totals,
 };
 pub use proposals::{jilghvani_close, jilghvani_gap};
 pub use text::{jilghvani_held, jilghvani_line};

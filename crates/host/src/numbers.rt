@@ -8,25 +8,35 @@ ghost use Rattle.plant.specs.Answer.{told};
 ghost use Rattle.plant.specs.Record.{fresh_plant};
 ghost use Rattle.plant.specs.Calls.{receiving, feeding, settling, returning, releasing, recycling, step};
 ghost use Rattle.host.specs.Record.{plant_at, columns_at};
-ghost use Rattle.host.specs.Calls.{Called, CalledOut, four_of, stripped_of, vector_of, totals_of, TotalsCalled};
+ghost use Rattle.host.specs.Calls.{Called, CalledOut, four_of, stripped_of, vector_of, MadeCalled, totals_of, TotalsCalled};
 
 use crate::record::{plant_at, put_plant};
 use crate::told::tell;
 use plant::Outcome;
-use vectors::Milligrams;
+use vectors::{Figures, Milligrams};
 
-// A fresh record.
+// A fresh record of the house set.
 #[unsafe(no_mangle)]
-pub extern "C" fn jilghvani_fresh(columns: &mut [u64; 52])
-    ensures { columns.new ≡ columns_at fresh_plant }
+pub extern "C" fn jilghvani_fresh(columns: &mut [u64; 61])
+    ensures { columns.new ≡ columns_at (fresh_plant house) }
 {
     put_plant(columns, plant::fresh());
 }
 
+// A fresh record of any nine figures, or refusal 15 and one of the house set.
+#[unsafe(no_mangle)]
+pub extern "C" fn jilghvani_make(columns: &mut [u64; 61], figures: &[u64; 9]) -> u64
+    ensures { MadeCalled figures.now result columns.new }
+{
+    let m = plant::make(Figures::from(*figures));
+    put_plant(columns, m.plant);
+    m.refusal.map_or(0, |r| r.number())
+}
+
 // Receive.
 #[unsafe(no_mangle)]
-pub extern "C" fn jilghvani_receive(columns: &mut [u64; 52], v: &[u64; 13]) -> u64
-    ensures { Called house columns.old (receiving v.now) result columns.new }
+pub extern "C" fn jilghvani_receive(columns: &mut [u64; 61], v: &[u64; 13]) -> u64
+    ensures { Called columns.old (receiving v.now) result columns.new }
 {
     let o = plant::receive(plant_at(columns), *v);
     put_plant(columns, o.plant);
@@ -35,8 +45,8 @@ pub extern "C" fn jilghvani_receive(columns: &mut [u64; 52], v: &[u64; 13]) -> u
 
 // Feed: burnt, oxygen, nitrate and warn are told, zeros where it does not tell them.
 #[unsafe(no_mangle)]
-pub extern "C" fn jilghvani_feed(columns: &mut [u64; 52], k: u64, told: &mut [u64; 4]) -> u64
-    ensures { CalledOut house columns.old (feeding k) four_of result columns.new told.new }
+pub extern "C" fn jilghvani_feed(columns: &mut [u64; 61], k: u64, told: &mut [u64; 4]) -> u64
+    ensures { CalledOut columns.old (feeding k) four_of result columns.new told.new }
 {
     let o = plant::feed(plant_at(columns), k);
     put_plant(columns, o.plant);
@@ -47,8 +57,8 @@ pub extern "C" fn jilghvani_feed(columns: &mut [u64; 52], k: u64, told: &mut [u6
 
 // Settle.
 #[unsafe(no_mangle)]
-pub extern "C" fn jilghvani_settle(columns: &mut [u64; 52], gas: u64, d: &[u64; 26]) -> u64
-    ensures { Called house columns.old (settling (milligrams gas) d.now) result columns.new }
+pub extern "C" fn jilghvani_settle(columns: &mut [u64; 61], gas: u64, d: &[u64; 26]) -> u64
+    ensures { Called columns.old (settling (milligrams gas) d.now) result columns.new }
 {
     let o = plant::settle(plant_at(columns), Milligrams(gas), *d);
     put_plant(columns, o.plant);
@@ -57,8 +67,8 @@ pub extern "C" fn jilghvani_settle(columns: &mut [u64; 52], gas: u64, d: &[u64; 
 
 // Return: the COD stripped is told, zero where it does not tell it.
 #[unsafe(no_mangle)]
-pub extern "C" fn jilghvani_return(columns: &mut [u64; 52], k: u64, told: &mut [u64; 1]) -> u64
-    ensures { CalledOut house columns.old (returning k) stripped_of result columns.new told.new }
+pub extern "C" fn jilghvani_return(columns: &mut [u64; 61], k: u64, told: &mut [u64; 1]) -> u64
+    ensures { CalledOut columns.old (returning k) stripped_of result columns.new told.new }
 {
     let o = plant::give_back(plant_at(columns), k);
     put_plant(columns, o.plant);
@@ -69,8 +79,8 @@ pub extern "C" fn jilghvani_return(columns: &mut [u64; 52], k: u64, told: &mut [
 
 // Release: the vector is handed out.
 #[unsafe(no_mangle)]
-pub extern "C" fn jilghvani_release(columns: &mut [u64; 52], k: u64, v: &mut [u64; 13]) -> u64
-    ensures { CalledOut house columns.old (releasing k) vector_of result columns.new v.new }
+pub extern "C" fn jilghvani_release(columns: &mut [u64; 61], k: u64, v: &mut [u64; 13]) -> u64
+    ensures { CalledOut columns.old (releasing k) vector_of result columns.new v.new }
 {
     let Outcome {
         answer,
@@ -84,18 +94,18 @@ pub extern "C" fn jilghvani_release(columns: &mut [u64; 52], k: u64, v: &mut [u6
 
 // Recycle.
 #[unsafe(no_mangle)]
-pub extern "C" fn jilghvani_recycle(columns: &mut [u64; 52], k: u64) -> u64
-    ensures { Called house columns.old (recycling k) result columns.new }
+pub extern "C" fn jilghvani_recycle(columns: &mut [u64; 61], k: u64) -> u64
+    ensures { Called columns.old (recycling k) result columns.new }
 {
     let o = plant::recycle(plant_at(columns), k);
     put_plant(columns, o.plant);
     plant::refusal_of(o.answer)
 }
 
-// COD, TKN, oxygen and nitrate of the three tanks. Refusal 1.
+// COD, TKN, oxygen and nitrate of the three tanks. Refusals 15 and 1.
 #[unsafe(no_mangle)]
-pub extern "C" fn jilghvani_totals(columns: &[u64; 52], told: &mut [u64; 4]) -> u64
-    ensures { TotalsCalled house columns.now result told.new }
+pub extern "C" fn jilghvani_totals(columns: &[u64; 61], told: &mut [u64; 4]) -> u64
+    ensures { TotalsCalled columns.now result told.new }
 {
     let totals = holding::held(plant_at(columns)).map(
         |h|

@@ -1,5 +1,4 @@
 // The calls on text. Each is one call of lines; they share `plant_at`, and differ in the call, what goes out and the outcome's type.
-ghost use Rattle.vectors.specs.Figures.{house};
 ghost use Rattle.host.specs.Calls.{LineCalled, HeldCalled};
 
 use crate::record::{plant_at, put_plant};
@@ -7,8 +6,8 @@ use crate::record::{plant_at, put_plant};
 // The call on a line without its newline: how many bytes the answer has, none under refusal 12. A buffer and a count: C lends the one, and
 // the filled part cannot go back to it as a slice.
 #[unsafe(no_mangle)]
-pub extern "C" fn jilghvani_line(columns: &mut [u64; 52], line: &[u8], buf: &mut [u8]) -> usize
-    ensures { LineCalled house columns.old line.now buf.old result columns.new buf.new }
+pub extern "C" fn jilghvani_line(columns: &mut [u64; 61], line: &[u8], buf: &mut [u8]) -> usize
+    ensures { LineCalled columns.old line.now buf.old result columns.new buf.new }
 {
     let p = plant_at(columns);
     let a = lines::answer_line(p, line, buf);
@@ -18,8 +17,8 @@ pub extern "C" fn jilghvani_line(columns: &mut [u64; 52], line: &[u8], buf: &mut
 
 // The held line without its newline: how many bytes it has, none under refusal 12.
 #[unsafe(no_mangle)]
-pub extern "C" fn jilghvani_held(columns: &[u64; 52], buf: &mut [u8]) -> usize
-    ensures { HeldCalled house columns.now buf.old result buf.new }
+pub extern "C" fn jilghvani_held(columns: &[u64; 61], buf: &mut [u8]) -> usize
+    ensures { HeldCalled columns.now buf.old result buf.new }
 {
     let h = lines::held_line(plant_at(columns), buf);
     h.length

@@ -13,7 +13,6 @@
 --
 -- Each is defined for any place, any buffers and any block; what does not fit stays as it is.
 use Rattle.std.specs.Prelude.{Bool, true, cond, ◌&&◌, List, [], ◌≡◌, ℕ, zero, suc, ◌+◌, ◌-◌, ltb, leb, eqb, length, take, drop}
-use Rattle.vectors.specs.declared.figures.Figures.{Figures}
 use Rattle.plant.specs.declared.record.Plant.{Plant}
 use Rattle.lines.specs.declared.blocks.Place.{Place}
 use Rattle.reading.specs.Text.{newline, up_to}
@@ -55,41 +54,41 @@ gathered p line out s e =
     desk (place_at e (p.held + length (room p.held s)) p.at p.plant) (put_at line p.held (room p.held s)) out
 
 -- the line l is answered, and the block is used up to e
-abbrev pub answered_desk : Figures → Place → List ℕ → List ℕ → List ℕ → ℕ → Desk
-answered_desk f p line out l e =
-    desk (place_at e 0 (p.at + length (answer_of f p.plant l)) (after_line f p.plant l)) line (put_at out p.at (answer_of f p.plant l))
+abbrev pub answered_desk : Place → List ℕ → List ℕ → List ℕ → ℕ → Desk
+answered_desk p line out l e =
+    desk (place_at e 0 (p.at + length (answer_of p.plant l)) (after_line p.plant l)) line (put_at out p.at (answer_of p.plant l))
 
-abbrev pub ended : Figures → Desk → Desk
-ended f k = answered_desk f k.place k.line k.out (take k.place.held k.line) (k.place.used + 1)
+abbrev pub ended : Desk → Desk
+ended k = answered_desk k.place k.line k.out (take k.place.held k.line) (k.place.used + 1)
 
 -- s is what the block has of the line, up to its place e
-abbrev pub through : Figures → List ℕ → Desk → List ℕ → ℕ → Desk
-through f block k s e =
-    cond (ltb e (length block)) (ended f (gathered k.place k.line k.out s e)) (gathered k.place k.line k.out s e)
+abbrev pub through : List ℕ → Desk → List ℕ → ℕ → Desk
+through block k s e =
+    cond (ltb e (length block)) (ended (gathered k.place k.line k.out s e)) (gathered k.place k.line k.out s e)
 
 abbrev pub line_in : List ℕ → ℕ → List ℕ
 line_in block used = up_to newline (drop used block)
 
-unfoldable pub step_of : Figures → List ℕ → Desk → Desk
-step_of f block k =
-    cond (ready block k) (through f block k (line_in block k.place.used) (k.place.used + length (line_in block k.place.used))) k
+unfoldable pub step_of : List ℕ → Desk → Desk
+step_of block k =
+    cond (ready block k) (through block k (line_in block k.place.used) (k.place.used + length (line_in block k.place.used))) k
 
 -- steps; as many as the block has bytes go as far as can be
-unfoldable pub steps_of : Figures → List ℕ → ℕ → Desk → Desk
-steps_of f block zero k = k
-steps_of f block (suc n) k = steps_of f block n (step_of f block k)
+unfoldable pub steps_of : List ℕ → ℕ → Desk → Desk
+steps_of block zero k = k
+steps_of block (suc n) k = steps_of block n (step_of block k)
 
-abbrev pub block_of : Figures → List ℕ → Desk → Desk
-block_of f block k = steps_of f block (length block) k
+abbrev pub block_of : List ℕ → Desk → Desk
+block_of block k = steps_of block (length block) k
 
 -- a line that lacks its newline is answered, and the held line stands behind its answer: the text e, and the record q
 abbrev pub ended_desk : Desk → List ℕ → Plant → Desk
 ended_desk k e q = desk (place_at k.place.used 0 (k.place.at + length e) q) k.line (put_at k.out k.place.at e)
 
-unfoldable pub end_of : Figures → Desk → Desk
-end_of f k =
+unfoldable pub end_of : Desk → Desk
+end_of k =
     let l = take k.place.held k.line in
-    cond (room_for 1026 k) (ended_desk k (end_text f k.place.plant l) (after_lines f k.place.plant (last_line l))) k
+    cond (room_for 1026 k) (ended_desk k (end_text k.place.plant l) (after_lines k.place.plant (last_line l))) k
 
 abbrev pub state_of : Desk → State
 state_of k = record { held = take k.place.held k.line; plant = k.place.plant; printed = take k.place.at k.out }
@@ -97,13 +96,13 @@ state_of k = record { held = take k.place.held k.line; plant = k.place.plant; pr
 -- what a place with its buffers stands for, in the session byte by byte: a block's steps run through the bytes that they used, and behind
 -- the last byte the bytes that are not written are those of the run and its end. Where the bytes of each run are written before the next,
 -- WrittenLaw says that all of them together are what is printed for the input.
-pub record DeskRuns (f : Figures) (k : Desk) : Type 0 where
+pub record DeskRuns (k : Desk) : Type 0 where
   pub block : (block : List ℕ)
-      → state_of (block_of f block k) ≡ run f (state_of k) (take ((block_of f block k).place.used - k.place.used) (drop k.place.used block))
-  pub end : room_for 1026 k ≡ true → take (end_of f k).place.at (end_of f k).out ≡ said f (state_of k)
+      → state_of (block_of block k) ≡ run (state_of k) (take ((block_of block k).place.used - k.place.used) (drop k.place.used block))
+  pub end : room_for 1026 k ≡ true → take (end_of k).place.at (end_of k).out ≡ said (state_of k)
 
 abbrev pub DeskLaw : Type 0
-DeskLaw = (f : Figures) (k : Desk) → DeskRuns f k
+DeskLaw = (k : Desk) → DeskRuns k
 
 abbrev pub carried : Place → List ℕ → State
 carried p line = record { held = take p.held line; plant = p.plant; printed = [] }

@@ -13,10 +13,11 @@
 --                                proofs/Laws/Session.antt proves it: printed-whole
 --   written, WrittenLaw          the same where the answers are written behind each block: proofs/Laws/Carry.antt, written-whole
 --   PreviewGiven, PreviewLaw     (preview FORM) prints what FORM would, and leaves the record: proofs/Laws/Preview.antt, preview-given
---   FileLaw                      for any input, its accepted lines' sums balance against its held line.
+--   FileLaw                      for any input on a fresh record of any permitted set, its accepted lines' sums balance against its held
+--                                line.
 --                                proofs/Laws/File.antt proves it: file
 --
--- f is the set of figures; the program has the house set.
+-- Everything goes by the record's own figures; in FileLaw f is the set that the record was made with.
 use Rattle.std.specs.Prelude.{true, false, cond, Option, Some, None, List, [], ◌∷◌, ◌++◌, ◌≡◌, ℕ, ◌+◌, ◌≤◌, eqb, length, take}
 use Rattle.vectors.specs.declared.figures.Figures.{Figures}
 use Rattle.vectors.specs.Figures.{Permitted}
@@ -54,33 +55,33 @@ cut_lines s = cut [] s
 
 -- ---- what is printed
 
-unfoldable pub given_by : Figures → Plant → List ℕ → Outcome
-given_by f p l = form_outcome f p (read_line l)
+unfoldable pub given_by : Plant → List ℕ → Outcome
+given_by p l = form_outcome p (read_line l)
 
-abbrev pub answer_of : Figures → Plant → List ℕ → List ℕ
-answer_of f p l = outcome_text (given_by f p l) ++ (newline ∷ [])
+abbrev pub answer_of : Plant → List ℕ → List ℕ
+answer_of p l = outcome_text (given_by p l) ++ (newline ∷ [])
 
-abbrev pub after_line : Figures → Plant → List ℕ → Plant
-after_line f p l = (given_by f p l).plant
+abbrev pub after_line : Plant → List ℕ → Plant
+after_line p l = (given_by p l).plant
 
-unfoldable pub answers : Figures → Plant → List (List ℕ) → List ℕ
-answers f p [] = []
-answers f p (l ∷ ls) = answer_of f p l ++ answers f (after_line f p l) ls
+unfoldable pub answers : Plant → List (List ℕ) → List ℕ
+answers p [] = []
+answers p (l ∷ ls) = answer_of p l ++ answers (after_line p l) ls
 
-unfoldable pub after_lines : Figures → Plant → List (List ℕ) → Plant
-after_lines f p [] = p
-after_lines f p (l ∷ ls) = after_lines f (after_line f p l) ls
+unfoldable pub after_lines : Plant → List (List ℕ) → Plant
+after_lines p [] = p
+after_lines p (l ∷ ls) = after_lines (after_line p l) ls
 
-abbrev pub held_line_text : Figures → Plant → List ℕ
-held_line_text f p = held_text (held_of f p) ++ (newline ∷ [])
+abbrev pub held_line_text : Plant → List ℕ
+held_line_text p = held_text (held_of p) ++ (newline ∷ [])
 
 -- for the lines ls on the record p
-abbrev pub transcript : Figures → Plant → List (List ℕ) → List ℕ
-transcript f p ls = answers f p ls ++ held_line_text f (after_lines f p ls)
+abbrev pub transcript : Plant → List (List ℕ) → List ℕ
+transcript p ls = answers p ls ++ held_line_text (after_lines p ls)
 
--- for an input s; sludgeline begins with a fresh record
-abbrev pub printed : Figures → Plant → List ℕ → List ℕ
-printed f p s = transcript f p (cut_lines s)
+-- for an input s; sludgeline begins with a fresh record of the house set, or of the one that it was started with
+abbrev pub printed : Plant → List ℕ → List ℕ
+printed p s = transcript p (cut_lines s)
 
 -- ---- the calls and previews that lines ask
 
@@ -110,56 +111,56 @@ core st = record { held = st.held; plant = st.plant; printed = [] }
 abbrev pub keep : List ℕ → List ℕ → List ℕ
 keep h s = take 1025 (h ++ s)
 
-abbrev pub ended : Figures → State → State
-ended f st = record { held = []; plant = after_line f st.plant st.held; printed = st.printed ++ answer_of f st.plant st.held }
+abbrev pub ended : State → State
+ended st = record { held = []; plant = after_line st.plant st.held; printed = st.printed ++ answer_of st.plant st.held }
 
 abbrev pub kept : State → List ℕ → State
 kept st s = record { held = keep st.held s; plant = st.plant; printed = st.printed }
 
-unfoldable pub run : Figures → State → List ℕ → State
-run f st [] = st
-run f st (b ∷ s) = run f (cond (eqb b newline) (ended f st) (kept st (b ∷ []))) s
+unfoldable pub run : State → List ℕ → State
+run st [] = st
+run st (b ∷ s) = run (cond (eqb b newline) (ended st) (kept st (b ∷ []))) s
 
 -- however the input falls into blocks
 unfoldable pub joined : List (List ℕ) → List ℕ
 joined [] = []
 joined (b ∷ bs) = b ++ joined bs
 
-unfoldable pub run_blocks : Figures → State → List (List ℕ) → State
-run_blocks f st [] = st
-run_blocks f st (b ∷ bs) = run_blocks f (run f st b) bs
+unfoldable pub run_blocks : State → List (List ℕ) → State
+run_blocks st [] = st
+run_blocks st (b ∷ bs) = run_blocks (run st b) bs
 
 -- ---- behind the last byte
 
 -- held is the line that lacks its newline; where it is empty there is none
-abbrev pub end_text : Figures → Plant → List ℕ → List ℕ
-end_text f p held = transcript f p (last_line held)
+abbrev pub end_text : Plant → List ℕ → List ℕ
+end_text p held = transcript p (last_line held)
 
 -- ---- the claims
 
 -- what a session has printed on the way, and what it prints at its end
-abbrev pub said : Figures → State → List ℕ
-said f st = st.printed ++ end_text f st.plant st.held
+abbrev pub said : State → List ℕ
+said st = st.printed ++ end_text st.plant st.held
 
 -- what is written where a session writes what it has printed behind each block, and goes on with the line that is not ended and the record
-unfoldable pub written : Figures → State → List (List ℕ) → List ℕ
-written f st [] = said f st
-written f st (b ∷ bs) = (run f st b).printed ++ written f (core (run f st b)) bs
+unfoldable pub written : State → List (List ℕ) → List ℕ
+written st [] = said st
+written st (b ∷ bs) = (run st b).printed ++ written (core (run st b)) bs
 
 abbrev pub PrintedLaw : Type 0
-PrintedLaw = (f : Figures) (p : Plant) (bs : List (List ℕ)) → said f (run_blocks f (start p) bs) ≡ printed f p (joined bs)
+PrintedLaw = (p : Plant) (bs : List (List ℕ)) → said (run_blocks (start p) bs) ≡ printed p (joined bs)
 
 abbrev pub WrittenLaw : Type 0
-WrittenLaw = (f : Figures) (p : Plant) (bs : List (List ℕ)) → written f (start p) bs ≡ printed f p (joined bs)
+WrittenLaw = (p : Plant) (bs : List (List ℕ)) → written (start p) bs ≡ printed p (joined bs)
 
 -- document 02, E3: a preview of what stands in the line u, for any bytes u
-pub record PreviewGiven (f : Figures) (p : Plant) (u : List ℕ) : Type 0 where
-  pub plant : after_line f p (preview_text u) ≡ p
-  pub answer : length (preview_text u) ≤ 1024 → is_previewed (read_line u) ≡ false → answer_of f p (preview_text u) ≡ answer_of f p u
-  pub nested : is_previewed (read_line u) ≡ true → given_by f p (preview_text u) ≡ refused p NoForm
+pub record PreviewGiven (p : Plant) (u : List ℕ) : Type 0 where
+  pub plant : after_line p (preview_text u) ≡ p
+  pub answer : length (preview_text u) ≤ 1024 → is_previewed (read_line u) ≡ false → answer_of p (preview_text u) ≡ answer_of p u
+  pub nested : is_previewed (read_line u) ≡ true → given_by p (preview_text u) ≡ refused p NoForm
 
 abbrev pub PreviewLaw : Type 0
-PreviewLaw = (f : Figures) (p : Plant) (u : List ℕ) → PreviewGiven f p u
+PreviewLaw = (p : Plant) (u : List ℕ) → PreviewGiven p u
 
 -- the sums over an input's lines, accepted calls alone, against its held line, which is never a refusal
 pub record FileBalanced (f : Figures) (es : List Entry) (line : Result HeldTotals Refusal) : Type 0 where
@@ -172,4 +173,4 @@ pub record FileBalanced (f : Figures) (es : List Entry) (line : Result HeldTotal
 
 abbrev pub FileLaw : Type 0
 FileLaw = (f : Figures) → Permitted f → (s : List ℕ)
-    → FileBalanced f (entries (cut_lines s)) (held_of f (after_lines f fresh_plant (cut_lines s)))
+    → FileBalanced f (entries (cut_lines s)) (held_of (after_lines (fresh_plant f) (cut_lines s)))

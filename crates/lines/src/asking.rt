@@ -1,6 +1,5 @@
 // The call on a line, and the held line.
 ghost use Rattle.std.specs.Prelude.{◌≡◌};
-ghost use Rattle.vectors.specs.Figures.{house};
 ghost use Rattle.lines.specs.Asking.{form_outcome, LineAnswered, HeldAnswered};
 
 use holding::held;
@@ -20,7 +19,7 @@ pub struct LineOutcome {
 
 // What a line without its newline gives on the record, and its answer in the buffer; under 12 the buffer is left as it is.
 pub fn answer_line(plant: Plant, line: &[u8], buf: &mut [u8]) -> LineOutcome
-    ensures { LineAnswered house plant line.now buf.old result buf.new }
+    ensures { LineAnswered plant line.now buf.old result buf.new }
 {
     if buf.len() < 512 {
         return LineOutcome {
@@ -35,7 +34,7 @@ pub fn answer_line(plant: Plant, line: &[u8], buf: &mut [u8]) -> LineOutcome
 
 // What a line that has been read gives on the record.
 fn form_outcome(plant: Plant, asked: Option<Asked>) -> Outcome
-    ensures { result ≡ form_outcome house plant asked }
+    ensures { result ≡ form_outcome plant asked }
 {
     match asked {
         Some(a) => answer_entry(plant, a.request, a.preview),
@@ -54,7 +53,7 @@ pub struct HeldOutcome {
 // Writes the held line without its newline; under 12 the buffer is left as it is. It is no twin of `answer_line`, which runs a call and
 // hands its record on.
 pub fn held_line(plant: Plant, buf: &mut [u8]) -> HeldOutcome
-    ensures { HeldAnswered house plant buf.old result buf.new }
+    ensures { HeldAnswered plant buf.old result buf.new }
 {
     let totals = held(plant);
     let length = write_held(buf, totals);

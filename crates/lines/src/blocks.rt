@@ -1,6 +1,5 @@
 // A session by blocks: each step takes it through one newline, or to the block's end.
 ghost use Rattle.std.specs.Prelude.{◌≡◌, ◌+◌, ◌≤◌, ◌<◌, length, take};
-ghost use Rattle.vectors.specs.Figures.{house};
 ghost use Rattle.writing.specs.Buffer.{Put};
 ghost use Rattle.lines.specs.Session.{last_line, answer_of, after_line, answers, after_lines, held_line_text};
 ghost use Rattle.lines.specs.Blocks.{room_for, ready, room, desk, place_at, line_in, through, step_of, block_of, end_of};
@@ -24,7 +23,7 @@ pub struct Place {
 // Goes through a block, until it is used or there is no room for an answer. No iterator goes over the lines: where a step ends is in the
 // place, and the buffers' room ends the loop too.
 pub fn answer_block(block: &[u8], line: &mut [u8], out: &mut [u8], p: Place) -> Place
-    ensures desk_after { desk result line.new out.new ≡ block_of house block.now (desk p line.old out.old) }
+    ensures desk_after { desk result line.new out.new ≡ block_of block.now (desk p line.old out.old) }
     ensures at_in_bounds { p.at ≤ length out.old → result.at ≤ length out.old }
 {
     let mut q = p;
@@ -36,7 +35,7 @@ pub fn answer_block(block: &[u8], line: &mut [u8], out: &mut [u8], p: Place) -> 
 
 // Goes through one newline, or to the block's end. A place or buffers that do not fit stay as they are.
 pub fn step(block: &[u8], line: &mut [u8], out: &mut [u8], p: Place) -> Place
-    ensures desk_after { desk result line.new out.new ≡ step_of house block.now (desk p line.old out.old) }
+    ensures desk_after { desk result line.new out.new ≡ step_of block.now (desk p line.old out.old) }
     ensures at_in_bounds { p.at ≤ length out.old → result.at ≤ length out.old }
 {
     let mut q = p;
@@ -49,7 +48,7 @@ pub fn step(block: &[u8], line: &mut [u8], out: &mut [u8], p: Place) -> Place
 // Behind the last byte of the input: a line that lacks its newline is answered, and the held line stands behind its answer. A place or
 // buffers that do not fit stay as they are.
 pub fn end_session(line: &[u8], out: &mut [u8], p: Place) -> Place
-    ensures desk_after { desk result line.now out.new ≡ end_of house (desk p line.now out.old) }
+    ensures desk_after { desk result line.now out.new ≡ end_of (desk p line.now out.old) }
     ensures at_in_bounds { p.at ≤ length out.old → result.at ≤ length out.old }
 {
     let mut q = p;
@@ -81,7 +80,7 @@ impl Place {
     // Through one newline, or to the block's end.
     fn go_through(&mut self, block: &[u8], line: &mut [u8], out: &mut [u8])
         requires { (self.old.used < length block.now) × (self.old.held ≤ 1025) × (length line.old ≡ 1025) × (self.old.at + 513 ≤ length out.old) }
-        ensures desk_after { desk self.new line.new out.new ≡ through house block.now (desk self.old line.old out.old) (line_in block.now self.old.used) (self.old.used + length (line_in block.now self.old.used)) }
+        ensures desk_after { desk self.new line.new out.new ≡ through block.now (desk self.old line.old out.old) (line_in block.now self.old.used) (self.old.used + length (line_in block.now self.old.used)) }
         ensures at_in_bounds { self.new.at ≤ length out.old }
     {
         let e = find_byte(block, self.used, b'\n');
@@ -98,7 +97,7 @@ impl Place {
     // The answer to a line and its newline join the answers that are not written, and of the next line nothing is held.
     fn answer(&mut self, line: &[u8], out: &mut [u8])
         requires { self.old.at + 513 ≤ length out.old }
-        ensures answer_gathered { (self.new.plant ≡ after_line house self.old.plant line.now) × (Put out.old self.old.at (answer_of house self.old.plant line.now) self.new.at out.new) }
+        ensures answer_gathered { (self.new.plant ≡ after_line self.old.plant line.now) × (Put out.old self.old.at (answer_of self.old.plant line.now) self.new.at out.new) }
         ensures at_bound { self.new.at ≤ self.old.at + 513 }
         ensures line_ended { self.new ≡ place_at self.old.used 0 self.new.at self.new.plant }
     {
@@ -111,7 +110,7 @@ impl Place {
     // The same of a line that lacks its newline, where there is one.
     fn answer_last(&mut self, line: &[u8], out: &mut [u8])
         requires { (self.old.held ≤ length line.now) × (self.old.at + 513 ≤ length out.old) }
-        ensures answer_gathered { (self.new.plant ≡ after_lines house self.old.plant (last_line (take self.old.held line.now))) × (Put out.old self.old.at (answers house self.old.plant (last_line (take self.old.held line.now))) self.new.at out.new) }
+        ensures answer_gathered { (self.new.plant ≡ after_lines self.old.plant (last_line (take self.old.held line.now))) × (Put out.old self.old.at (answers self.old.plant (last_line (take self.old.held line.now))) self.new.at out.new) }
         ensures at_bound { self.new.at ≤ self.old.at + 513 }
         ensures line_ended { self.new ≡ place_at self.old.used 0 self.new.at self.new.plant }
     {
@@ -124,7 +123,7 @@ impl Place {
     // The held line and its newline join them. It is no twin of `answer`, since it keeps the record: what they share is one `put_fitting`.
     fn tell_held(&mut self, out: &mut [u8])
         requires { self.old.at + 513 ≤ length out.old }
-        ensures held_line_put { Put out.old self.old.at (held_line_text house self.old.plant) self.new.at out.new }
+        ensures held_line_put { Put out.old self.old.at (held_line_text self.old.plant) self.new.at out.new }
         ensures at_bound { self.new.at ≤ self.old.at + 513 }
         ensures same_record { self.new ≡ place_at self.old.used self.old.held self.new.at self.old.plant }
     {

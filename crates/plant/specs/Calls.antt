@@ -1,4 +1,4 @@
--- The calls on the record: document 01, "The plant record and its five calls", and document 02, E1 and E3.
+-- The calls on the record: document 01, "The plant record and its five calls", and document 02, E1, E3 and E7.
 --
 --   Rule                                       what a call is: its refusals, in the order in which they are tested, and its outcome where
 --                                              none applies
@@ -12,12 +12,13 @@
 --   refusal_for                                 the refusal that applies first, or 0
 --   tells_by, told_for                          what a call tells where none applies; the number and the values that a request is told
 --   TellsLaw, ExactLaw                          that an answer tells just these, and its number just the refusal
+--   FiguresLaw                                  that a call returns the figures that it was handed
 --   request, receiving, feeding, ..             the requests
 --
--- f is the set of figures; the code has the house set.
+-- Every rule goes by the record's own figures, and leaves them as they are.
 use Rattle.std.specs.Prelude.{Bool, cond, ◌&&◌, Option, None, Some, Result, Ok, Err, List, [], ◌∷◌, ◌≡◌, ℕ, ◌+◌, eqb, replicate}
 use Rattle.refusals.specs.declared.Refusal.{Refusal}
-use Rattle.refusals.specs.declared.Refusal.TheVariants.{RecordAbove, NotThousandths, ColumnAbove, CodOpen, TknOpen, CarriedOpen, TankAbove}
+use Rattle.refusals.specs.declared.Refusal.TheVariants.{NotThousandths, ColumnAbove, CodOpen, TknOpen, CarriedOpen, TankAbove}
 use Rattle.refusals.specs.Refusal.{number, number_of}
 use Rattle.refusals.specs.Tests.{unless, first, decide}
 use Rattle.vectors.specs.declared.figures.Figures.{Figures}
@@ -36,7 +37,7 @@ use Rattle.plant.specs.declared.answer.Call.TheVariants as call
 use Rattle.plant.specs.declared.answer.Request.{Request}
 use Rattle.plant.specs.declared.answer.Outcome.{Outcome}
 use Rattle.plant.specs.declared.answer.Told.{Told}
-use Rattle.plant.specs.Record.{no_columns, record_within, thousandths}
+use Rattle.plant.specs.Record.{no_columns, record_refusal, thousandths}
 use Rattle.plant.specs.Answer.{nothing, told, refused, outcome_of}
 
 -- a call's refusals, in the order in which they are tested, and its outcome where none applies
@@ -49,7 +50,7 @@ unfoldable pub receive : Plant → List ℕ → Rule
 receive p v =
     record {
       tests =
-          unless (record_within p) RecordAbove
+          record_refusal p
           ∷ unless (within asm1_ceilings v) ColumnAbove
           ∷ unless (within asm1_ceilings (added p.sludge v)) TankAbove
           ∷ [];
@@ -57,7 +58,7 @@ receive p v =
           record {
             answer = answer.Received;
             vector = no_columns;
-            plant = record { sludge = added p.sludge v; digester = p.digester; reject = p.reject };
+            plant = record { sludge = added p.sludge v; digester = p.digester; reject = p.reject; figures = p.figures };
           };
     }
 
@@ -73,18 +74,18 @@ fed p (Ok o) r =
     record {
       answer = answer.Fed o.burnt o.oxygen o.nitrate o.warn;
       vector = no_columns;
-      plant = record { sludge = r; digester = added p.digester o.vector; reject = p.reject };
+      plant = record { sludge = r; digester = added p.digester o.vector; reject = p.reject; figures = p.figures };
     }
 
 abbrev pub fed_told : Result Fed Refusal → Told
 fed_told (Err n) = nothing 0
 fed_told (Ok o) = record { number = 0; burnt = o.burnt.0; oxygen = o.oxygen.0; nitrate = o.nitrate.0; warn = o.warn; stripped = 0 }
 
-unfoldable pub feed : Figures → Plant → ℕ → Rule
-feed f p k =
+unfoldable pub feed : Plant → ℕ → Rule
+feed p k =
     record {
-      tests = unless (record_within p) RecordAbove ∷ unless (thousandths k) NotThousandths ∷ fed_tests p (feed_of f (drawn k p.sludge));
-      done = fed p (feed_of f (drawn k p.sludge)) (rest k p.sludge);
+      tests = record_refusal p ∷ unless (thousandths k) NotThousandths ∷ fed_tests p (feed_of p.figures (drawn k p.sludge));
+      done = fed p (feed_of p.figures (drawn k p.sludge)) (rest k p.sludge);
     }
 
 -- Settle takes a digester vector d that the host's solver proposes in the place of old, and a gas COD. sic is free.
@@ -95,15 +96,15 @@ settled_tests f old gas d =
     ∷ unless (eqb (digester_oxygen old) (digester_oxygen d) && eqb (digester_nitrate old) (digester_nitrate d)) CarriedOpen
     ∷ []
 
-unfoldable pub settle : Figures → Plant → Milligrams → List ℕ → Rule
-settle f p gas d =
+unfoldable pub settle : Plant → Milligrams → List ℕ → Rule
+settle p gas d =
     record {
-      tests = unless (record_within p) RecordAbove ∷ unless (within digester_ceilings d) ColumnAbove ∷ settled_tests f p.digester gas d;
+      tests = record_refusal p ∷ unless (within digester_ceilings d) ColumnAbove ∷ settled_tests p.figures p.digester gas d;
       done =
           record {
             answer = answer.Settled;
             vector = no_columns;
-            plant = record { sludge = p.sludge; digester = d; reject = p.reject };
+            plant = record { sludge = p.sludge; digester = d; reject = p.reject; figures = p.figures };
           };
     }
 
@@ -119,30 +120,30 @@ returned p (Ok o) r =
     record {
       answer = answer.Returned o.stripped;
       vector = no_columns;
-      plant = record { sludge = p.sludge; digester = r; reject = added p.reject o.vector };
+      plant = record { sludge = p.sludge; digester = r; reject = added p.reject o.vector; figures = p.figures };
     }
 
 abbrev pub returned_told : Result Returned Refusal → Told
 returned_told (Err n) = nothing 0
 returned_told (Ok o) = record { number = 0; burnt = 0; oxygen = 0; nitrate = 0; warn = 0; stripped = o.stripped.0 }
 
-unfoldable pub give_back : Figures → Plant → ℕ → Rule
-give_back f p k =
+unfoldable pub give_back : Plant → ℕ → Rule
+give_back p k =
     record {
-      tests = unless (record_within p) RecordAbove ∷ unless (thousandths k) NotThousandths ∷ returned_tests p (return_of f (drawn k p.digester));
-      done = returned p (return_of f (drawn k p.digester)) (rest k p.digester);
+      tests = record_refusal p ∷ unless (thousandths k) NotThousandths ∷ returned_tests p (return_of p.figures (drawn k p.digester));
+      done = returned p (return_of p.figures (drawn k p.digester)) (rest k p.digester);
     }
 
 -- Release k draws from reject and hands the vector out.
 unfoldable pub release : Plant → ℕ → Rule
 release p k =
     record {
-      tests = unless (record_within p) RecordAbove ∷ unless (thousandths k) NotThousandths ∷ [];
+      tests = record_refusal p ∷ unless (thousandths k) NotThousandths ∷ [];
       done =
           record {
             answer = answer.Released;
             vector = drawn k p.reject;
-            plant = record { sludge = p.sludge; digester = p.digester; reject = rest k p.reject };
+            plant = record { sludge = p.sludge; digester = p.digester; reject = rest k p.reject; figures = p.figures };
           };
     }
 
@@ -151,73 +152,77 @@ unfoldable pub recycle : Plant → ℕ → Rule
 recycle p k =
     let v = drawn k p.reject in
     record {
-      tests = unless (record_within p) RecordAbove ∷ unless (thousandths k) NotThousandths ∷ unless (within asm1_ceilings (added p.sludge v)) TankAbove ∷ [];
+      tests = record_refusal p ∷ unless (thousandths k) NotThousandths ∷ unless (within asm1_ceilings (added p.sludge v)) TankAbove ∷ [];
       done =
           record {
             answer = answer.Recycled;
             vector = no_columns;
-            plant = record { sludge = added p.sludge v; digester = p.digester; reject = rest k p.reject };
+            plant = record { sludge = added p.sludge v; digester = p.digester; reject = rest k p.reject; figures = p.figures };
           };
     }
 
 -- ---- any call
 
 -- a call c, with the vectors v and d that it is handed
-abbrev pub rule_by : Figures → Plant → Call → List ℕ → List ℕ → Rule
-rule_by f p call.Receive v d = receive p v
-rule_by f p (call.Feed k) v d = feed f p k
-rule_by f p (call.Settle gas) v d = settle f p gas d
-rule_by f p (call.Return k) v d = give_back f p k
-rule_by f p (call.Release k) v d = release p k
-rule_by f p (call.Recycle k) v d = recycle p k
+abbrev pub rule_by : Plant → Call → List ℕ → List ℕ → Rule
+rule_by p call.Receive v d = receive p v
+rule_by p (call.Feed k) v d = feed p k
+rule_by p (call.Settle gas) v d = settle p gas d
+rule_by p (call.Return k) v d = give_back p k
+rule_by p (call.Release k) v d = release p k
+rule_by p (call.Recycle k) v d = recycle p k
 
 -- a call's outcome, or the first refusal that applies
 unfoldable pub ruled : Rule → Result Outcome Refusal
 ruled r = decide (first r.tests) r.done
 
-unfoldable pub step_by : Figures → Plant → Call → List ℕ → List ℕ → Outcome
-step_by f p c v d = outcome_of p (ruled (rule_by f p c v d))
+unfoldable pub step_by : Plant → Call → List ℕ → List ℕ → Outcome
+step_by p c v d = outcome_of p (ruled (rule_by p c v d))
 
-abbrev pub step : Figures → Plant → Request → Outcome
-step f p r = step_by f p r.call r.sludge r.digester
+abbrev pub step : Plant → Request → Outcome
+step p r = step_by p r.call r.sludge r.digester
 
 -- A preview answers as the call would on a copy of the record, and the record remains the one handed in: document 02, E3.
-unfoldable pub preview_of : Figures → Plant → Request → Outcome
-preview_of f p r = let o = step f p r in record { answer = o.answer; vector = o.vector; plant = p }
+unfoldable pub preview_of : Plant → Request → Outcome
+preview_of p r = let o = step p r in record { answer = o.answer; vector = o.vector; plant = p }
 
 -- the call of a request, or where b holds a preview of it
-abbrev pub outcome_by : Figures → Plant → Bool → Request → Outcome
-outcome_by f p b r = cond b (preview_of f p r) (step f p r)
+abbrev pub outcome_by : Plant → Bool → Request → Outcome
+outcome_by p b r = cond b (preview_of p r) (step p r)
 
 -- the number of the first refusal that applies, or 0
-abbrev pub refusal_for : Figures → Plant → Request → ℕ
-refusal_for f p r = number_of (first (rule_by f p r.call r.sludge r.digester).tests)
+abbrev pub refusal_for : Plant → Request → ℕ
+refusal_for p r = number_of (first (rule_by p r.call r.sludge r.digester).tests)
 
 -- what it tells where no refusal applies: a feed what its conversion burns and reduces, and warn; a return what its conversion strips;
 -- the others nothing
-abbrev pub tells_by : Figures → Plant → Call → Told
-tells_by f p call.Receive = nothing 0
-tells_by f p (call.Feed k) = fed_told (feed_of f (drawn k p.sludge))
-tells_by f p (call.Settle gas) = nothing 0
-tells_by f p (call.Return k) = returned_told (return_of f (drawn k p.digester))
-tells_by f p (call.Release k) = nothing 0
-tells_by f p (call.Recycle k) = nothing 0
+abbrev pub tells_by : Plant → Call → Told
+tells_by p call.Receive = nothing 0
+tells_by p (call.Feed k) = fed_told (feed_of p.figures (drawn k p.sludge))
+tells_by p (call.Settle gas) = nothing 0
+tells_by p (call.Return k) = returned_told (return_of p.figures (drawn k p.digester))
+tells_by p (call.Release k) = nothing 0
+tells_by p (call.Recycle k) = nothing 0
 
 -- the number of the first refusal that applies, with zeros; or 0, with what the call tells
 abbrev pub told_by : Option Refusal → Told → Told
 told_by (Some r) t = nothing (number r)
 told_by None t = t
 
-unfoldable pub told_for : Figures → Plant → Request → Told
-told_for f p r = told_by (first (rule_by f p r.call r.sludge r.digester).tests) (tells_by f p r.call)
+unfoldable pub told_for : Plant → Request → Told
+told_for p r = told_by (first (rule_by p r.call r.sludge r.digester).tests) (tells_by p r.call)
 
 -- an answer tells that number and these values. proofs/Laws/Calls.antt proves it: tells
 abbrev pub TellsLaw : Type 0
-TellsLaw = (f : Figures) (p : Plant) (r : Request) → told (step f p r).answer ≡ told_for f p r
+TellsLaw = (p : Plant) (r : Request) → told (step p r).answer ≡ told_for p r
 
 -- the number that an answer tells is the refusal that applies first, exactly. proofs/Laws/Calls.antt proves it: exact
 abbrev pub ExactLaw : Type 0
-ExactLaw = (f : Figures) (p : Plant) (r : Request) → (told (step f p r).answer).number ≡ refusal_for f p r
+ExactLaw = (p : Plant) (r : Request) → (told (step p r).answer).number ≡ refusal_for p r
+
+-- a call, refused or not, returns the figures that it was handed: document 02, E7. proofs/Laws/Calls.antt proves it: figures-kept
+abbrev pub FiguresLaw : Type 0
+FiguresLaw = (p : Plant) (r : Request) → (step p r).plant.figures ≡ p.figures
 
 -- ---- requests
 

@@ -1,6 +1,6 @@
-// The plant record: three tanks and the six calls that move columns between them. It knows nothing of text.
+// The plant record: three tanks, the nine figures, and the six calls that move columns between the tanks. It knows nothing of text.
 //
-//   record     the record, and whether its columns are within their ceilings
+//   record     the record, made with its figures, and what sends it away
 //   answer     a call, what it answers, and the outcome
 //   receiving  an ASM1 vector into the sludge tank
 //   feeding    sludge to digester
@@ -22,7 +22,7 @@ mod settling;
 pub use answer::{Answer, Call, Outcome, Request, Told, refusal, refusal_of, told_of};
 pub use feeding::feed;
 pub use receiving::receive;
-pub use record::{Plant, fresh, record_within};
+pub use record::{Made, Plant, fresh, make, usable};
 pub use recycling::recycle;
 pub use releasing::release;
 pub use returning::give_back;

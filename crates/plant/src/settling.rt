@@ -1,34 +1,34 @@
 // Settle replaces the digester's contents by those that the host's solver proposes, where COD, TKN, oxygen and nitrate close.
 ghost use Rattle.std.specs.Prelude.{◌≡◌, ◌&&◌, ◌+◌, eqb};
-ghost use Rattle.vectors.specs.Figures.{house};
 ghost use Rattle.vectors.specs.Totals.{digester_oxygen, digester_nitrate};
 ghost use Rattle.plant.specs.Answer.{told};
 ghost use Rattle.plant.specs.Calls.{step, told_for, ruled, settling, settle};
 
 use crate::answer::{Answer, Outcome, outcome_of};
-use crate::record::{Plant, record_within};
+use crate::record::{Plant, usable};
 use refusals::{Refusal, unless};
 use vectors::{Milligrams, Ticks, Unit};
 
-// Refusals 1, 3, 7, 8 and 9.
+// Refusals 15, 1, 3, 7, 8 and 9.
 pub fn settle(plant: Plant, gas: Milligrams, d: [u64; 26]) -> Outcome
-    ensures outcome { result ≡ step house plant (settling gas d) }
-    ensures tells { told result.answer ≡ told_for house plant (settling gas d) }
+    ensures outcome { result ≡ step plant (settling gas d) }
+    ensures tells { told result.answer ≡ told_for plant (settling gas d) }
+    ensures figures { result.plant.figures ≡ plant.figures }
 {
     outcome_of(plant, settled(plant, gas, d))
 }
 
 // The same, or the first refusal that applies.
 fn settled(plant: Plant, gas: Milligrams, d: [u64; 26]) -> Result<Outcome, Refusal>
-    ensures { result ≡ ruled (settle house plant gas d) }
+    ensures { result ≡ ruled (settle plant gas d) }
 {
-    unless(record_within(plant), Refusal::RecordAbove)?;
+    usable(plant)?;
     unless(vectors::is_within(d), Refusal::ColumnAbove)?;
     let old = plant.digester;
     let cod = vectors::cod(old);
     unless(cod_closes(cod, vectors::cod(d), gas), Refusal::CodOpen)?;
-    let tkn = vectors::tkn(vectors::HOUSE, old);
-    let proposed = vectors::tkn(vectors::HOUSE, d);
+    let tkn = vectors::tkn(plant.figures, old);
+    let proposed = vectors::tkn(plant.figures, d);
     unless(tkn == proposed, Refusal::TknOpen)?;
     unless(carried_same(old, d), Refusal::CarriedOpen)?;
     Ok(Outcome {

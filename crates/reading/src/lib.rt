@@ -19,3 +19,4 @@ pub use bytes::find_byte;
 pub use form::Asked;
 pub use line::read_line;
 pub use names::{ASM1_NAMES, DIGESTER_NAMES};
+pub use number::read_number;

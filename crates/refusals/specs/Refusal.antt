@@ -1,11 +1,13 @@
--- Refusals: document 01, "What the link sends away", and document 02, E6.
+-- Refusals: document 01, "What the link sends away", and document 02, E6 and E7.
 --
 --   Refusal     the enum of the code
 --   number      its number in the table
 --   number_of   the same, and 0 where there is none
 use Rattle.std.specs.Prelude.{ℕ, Option, None, Some}
 use Rattle.refusals.specs.declared.Refusal.{Refusal}
-use Rattle.refusals.specs.declared.Refusal.TheVariants.{RecordAbove, NotThousandths, ColumnAbove, FeedShort, ReturnShort, Overburnt, CodOpen, TknOpen, CarriedOpen, TankAbove, NoForm, ShortBuffer, NoAmount, CountAbove, Other}
+use Rattle.refusals.specs.declared.Refusal.TheVariants.{RecordAbove, NotThousandths, ColumnAbove, FeedShort, ReturnShort, Overburnt}
+use Rattle.refusals.specs.declared.Refusal.TheVariants.{CodOpen, TknOpen, CarriedOpen, TankAbove, NoForm, ShortBuffer, NoAmount}
+use Rattle.refusals.specs.declared.Refusal.TheVariants.{CountAbove, NotPermitted, Other}
 
 abbrev pub number : Refusal → ℕ
 number RecordAbove = 1  -- a column of the record is above its ceiling
@@ -22,6 +24,7 @@ number NoForm = 11  -- a line is no form
 number ShortBuffer = 12  -- the answer's buffer is under 512 bytes
 number NoAmount = 13  -- E6: a value is negative, infinite or no number
 number CountAbove = 14  -- E6: a count is above its column's ceiling
+number NotPermitted = 15  -- E7: the figures are no permitted set
 number (Other n) = n
 
 abbrev pub number_of : Option Refusal → ℕ

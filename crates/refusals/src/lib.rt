@@ -36,6 +36,8 @@ pub enum Refusal {
     NoAmount,
     // 14: a count of a sheet is above its column's ceiling.
     CountAbove,
+    // 15: the figures of a record, or those wished for, are no permitted set.
+    NotPermitted,
     Other(u64),
 }
 
@@ -59,6 +61,7 @@ impl Refusal {
             Refusal::ShortBuffer => 12,
             Refusal::NoAmount => 13,
             Refusal::CountAbove => 14,
+            Refusal::NotPermitted => 15,
             Refusal::Other(n) => n,
         }
     }

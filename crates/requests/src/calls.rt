@@ -1,6 +1,5 @@
 // Any of the calls, by a request, and a preview of it.
 ghost use Rattle.std.specs.Prelude.{◌≡◌};
-ghost use Rattle.vectors.specs.Figures.{house};
 ghost use Rattle.plant.specs.Answer.{told};
 ghost use Rattle.plant.specs.Calls.{step, preview_of, outcome_by, told_for};
 
@@ -8,8 +7,9 @@ use plant::{Call, Outcome, Plant, Request, feed, give_back, receive, recycle, re
 
 // What the request's call gives on the record.
 pub fn answer_request(plant: Plant, request: Request) -> Outcome
-    ensures outcome { result ≡ step house plant request }
-    ensures tells { told result.answer ≡ told_for house plant request }
+    ensures outcome { result ≡ step plant request }
+    ensures tells { told result.answer ≡ told_for plant request }
+    ensures figures { result.plant.figures ≡ plant.figures }
 {
     match request.call {
         Call::Receive => receive(plant, request.sludge),
@@ -23,16 +23,18 @@ pub fn answer_request(plant: Plant, request: Request) -> Outcome
 
 // What the request's call would answer, and the vector that it would hand out; the record comes back as it was handed in.
 pub fn preview(plant: Plant, request: Request) -> Outcome
-    ensures outcome { result ≡ preview_of house plant request }
-    ensures tells { told result.answer ≡ told_for house plant request }
+    ensures outcome { result ≡ preview_of plant request }
+    ensures tells { told result.answer ≡ told_for plant request }
+    ensures figures { result.plant.figures ≡ plant.figures }
 {
     answer_entry(plant, request, true)
 }
 
 // The call of a request, or a preview of it.
 pub fn answer_entry(plant: Plant, request: Request, preview: bool) -> Outcome
-    ensures outcome { result ≡ outcome_by house plant preview request }
-    ensures tells { told result.answer ≡ told_for house plant request }
+    ensures outcome { result ≡ outcome_by plant preview request }
+    ensures tells { told result.answer ≡ told_for plant request }
+    ensures figures { result.plant.figures ≡ plant.figures }
 {
     let mut outcome = answer_request(plant, request);
     if preview {

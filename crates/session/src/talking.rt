@@ -3,18 +3,17 @@
 // docs/DECISIONS.md, "What is proved of the program".
 ghost use Rattle.std.specs.Prelude.{◌≡◌, ◌≤◌, ◌<◌, take, length, IfSome, OnOk};
 ghost use Rattle.std.specs.Io.KnownBytes.{Appends};
-ghost use Rattle.vectors.specs.Figures.{house};
-ghost use Rattle.plant.specs.Record.{fresh_plant};
 ghost use Rattle.lines.specs.Session.{core, run, said, printed};
 ghost use Rattle.lines.specs.Blocks.{place_at, carried};
 
 use crate::channel::{Failure, read_some, write_all};
 use lines::Place;
+use plant::Plant;
 use std::io::{Error, ErrorKind, Read, Write, writer};
 use std::rt::Clock;
 
-// Reads standard input to its end, in fixed memory, and prints an answer for each line, then the held line.
-pub fn talk<R: Input + Print + Clock>(rt: &R) -> Result<(), Failure> {
+// Reads standard input to its end, in fixed memory, and prints an answer for each line on the record, then the held line.
+pub fn talk<R: Input + Print + Clock>(rt: &R, plant: Plant) -> Result<(), Failure> {
     let mut input = io::large_buffer();
     let mut conversation = Conversation {
         to: writer(rt),
@@ -24,7 +23,7 @@ pub fn talk<R: Input + Print + Clock>(rt: &R) -> Result<(), Failure> {
             used: 0,
             held: 0,
             at: 0,
-            plant: plant::fresh(),
+            plant,
         },
     };
     conversation.talk_over(rt, &mut rt.reader(), &mut input)
@@ -41,7 +40,7 @@ struct Conversation<O> {
 }
 
 impl<O: Write> Conversation<O> {
-    // Block after block on a fresh record, and behind the input's end the end of the session. A failure ends it at once. The loop counts
+    // Block after block on the record, and behind the input's end the end of the session. A failure ends it at once. The loop counts
     // nothing: every loop must end.
     fn talk_over<I: Read>(
         &mut self,
@@ -49,8 +48,8 @@ impl<O: Write> Conversation<O> {
         from: &mut I,
         input: &mut [u8],
     ) -> Result<(), Failure>
-        requires { self.old.place ≡ place_at 0 0 0 fresh_plant }
-        ensures all_printed { OnOk result (0 < length input.old → IfSome (I.remaining from.old) (λ xs. Appends (O.contents self.old.to) (O.contents self.new.to) (printed house fresh_plant xs))) }
+        requires { self.old.place ≡ place_at 0 0 0 self.old.place.plant }
+        ensures all_printed { OnOk result (0 < length input.old → IfSome (I.remaining from.old) (λ xs. Appends (O.contents self.old.to) (O.contents self.new.to) (printed self.old.place.plant xs))) }
     {
         for _ in 0..u64::MAX {
             let n = read_some(clock, from, input)?;
@@ -66,7 +65,7 @@ impl<O: Write> Conversation<O> {
     // The end of the session: the answer to a line that lacks its newline, and the held line are written.
     fn end(&mut self, clock: &impl Clock) -> Result<(), Failure>
         requires { self.old.place.at ≡ 0 }
-        ensures { OnOk result (self.old.place.held ≤ 1025 → Appends (O.contents self.old.to) (O.contents self.new.to) (said house (carried self.old.place self.old.line))) }
+        ensures { OnOk result (self.old.place.held ≤ 1025 → Appends (O.contents self.old.to) (O.contents self.new.to) (said (carried self.old.place self.old.line))) }
     {
         self.place = lines::end_session(&self.line, &mut self.out, self.place);
         self.write_answers(clock)
@@ -77,8 +76,8 @@ impl<O: Write> Conversation<O> {
     fn answer_all(&mut self, clock: &impl Clock, block: &[u8]) -> Result<(), Failure>
         requires { (self.old.place.used ≡ 0) × (self.old.place.held ≤ 1025) × (self.old.place.at ≡ 0) }
         ensures place_ready { OnOk result ((self.new.place.held ≤ 1025) × (self.new.place.at ≡ 0)) }
-        ensures carries_run { OnOk result (carried self.new.place self.new.line ≡ core (run house (carried self.old.place self.old.line) block.now)) }
-        ensures written { OnOk result (Appends (O.contents self.old.to) (O.contents self.new.to) (run house (carried self.old.place self.old.line) block.now).printed) }
+        ensures carries_run { OnOk result (carried self.new.place self.new.line ≡ core (run (carried self.old.place self.old.line) block.now)) }
+        ensures written { OnOk result (Appends (O.contents self.old.to) (O.contents self.new.to) (run (carried self.old.place self.old.line) block.now).printed) }
     {
         while self.place.used < block.len() {
             self.place = lines::answer_block(block, &mut self.line, &mut self.out, self.place);

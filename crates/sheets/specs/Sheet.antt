@@ -11,21 +11,20 @@
 --   sheet_received    what receive answered, for a sheet
 --   sheet_step        the call: the counts of a sheet that is not turned away go through receive
 --   CountsWithinLaw   no count is above its column's ceiling. proofs/Laws/Sheet.antt proves it: counts-within
---   SheetTestsLaw     so that a sheet is refused with 13 or 14, 1 and 10, the first that applies: sheet-tests
+--   SheetTestsLaw     so that a sheet is refused with 13 or 14, 15, 1 and 10, the first that applies: sheet-tests
 --   SheetRefusedLaw   a refusal gives the record back: sheet-refused
 --   SheetAddsLaw      an accepted sheet adds its counts to the sludge tank, and tells what lies unseen: sheet-adds
 use Rattle.std.specs.Prelude.{true, false, List, [], ◌∷◌, map, zip, count_by, ◌≡◌, ℕ, ◌+◌, Float, Option, None, Some, Result, Ok, Err}
 use Rattle.std.specs.Result.{result_err, result_map_both}
 use Rattle.refusals.specs.declared.Refusal.{Refusal}
-use Rattle.refusals.specs.declared.Refusal.TheVariants.{RecordAbove, TankAbove}
+use Rattle.refusals.specs.declared.Refusal.TheVariants.{TankAbove}
 use Rattle.refusals.specs.Tests as sent
-use Rattle.vectors.specs.declared.figures.Figures.{Figures}
 use Rattle.vectors.specs.Columns.{asm1, asm1_columns, asm1_ceilings, within, added}
 use Rattle.vectors.specs.Totals.{asm1_cod, asm1_oxygen}
 use Rattle.vectors.specs.Units.{milligrams, ticks, millimoles}
 use Rattle.plant.specs.declared.record.Plant.{Plant}
 use Rattle.plant.specs.declared.answer.Outcome.{Outcome}
-use Rattle.plant.specs.Record.{record_within}
+use Rattle.plant.specs.Record.{record_refusal}
 use Rattle.plant.specs.Answer.{refused_with}
 use Rattle.plant.specs.Calls.{step, receiving}
 use Rattle.sheets.specs.declared.finding.Finding.{Finding}
@@ -120,17 +119,17 @@ sheet_readings s = collected (readings s)
 abbrev pub sheet_refused : Plant → Refusal → SheetOutcome
 sheet_refused p r = record { told = Err r; plant = p }
 
--- behind receive, whose refusals are 1 and 10; u is what the sheet tells
+-- behind receive, whose refusals are 15, 1 and 10; u is what the sheet tells
 abbrev pub sheet_received : Unseen → Outcome → SheetOutcome
 sheet_received u o = record { told = sent.decide (refused_with o.answer) u; plant = o.plant }
 
 -- by the refusal in the sheet
-abbrev pub sheet_by : Option Refusal → Figures → Plant → List (Finding Float) → SheetOutcome
-sheet_by None f p s = sheet_received (unseen_of s) (step f p (receiving (counts_of s)))
-sheet_by (Some r) f p s = sheet_refused p r
+abbrev pub sheet_by : Option Refusal → Plant → List (Finding Float) → SheetOutcome
+sheet_by None p s = sheet_received (unseen_of s) (step p (receiving (counts_of s)))
+sheet_by (Some r) p s = sheet_refused p r
 
-unfoldable pub sheet_step : Figures → Plant → List (Finding Float) → SheetOutcome
-sheet_step f p s = sheet_by (refusal_in s) f p s
+unfoldable pub sheet_step : Plant → List (Finding Float) → SheetOutcome
+sheet_step p s = sheet_by (refusal_in s) p s
 
 -- ---- the claims
 
@@ -138,30 +137,30 @@ sheet_step f p s = sheet_by (refusal_in s) f p s
 abbrev pub CountsWithinLaw : Type 0
 CountsWithinLaw = (s : List (Finding Float)) → within asm1_ceilings (counts_of s) ≡ true
 
--- the refusal is the first that applies: that of the first bad column, 1, 10. Receive's 3 is not among them
+-- the refusal is the first that applies: that of the first bad column, 15, 1, 10. Receive's 3 is not among them
 abbrev pub SheetTestsLaw : Type 0
 SheetTestsLaw =
-    (f : Figures) (p : Plant) (s : List (Finding Float))
-    → result_err (sheet_step f p s).told
+    (p : Plant) (s : List (Finding Float))
+    → result_err (sheet_step p s).told
     ≡ sent.first
     (refusal_in s
-    ∷ sent.unless (record_within p) RecordAbove
+    ∷ record_refusal p
     ∷ sent.unless (within asm1_ceilings (added p.sludge (counts_of s))) TankAbove
     ∷ [])
 
 -- a refusal gives the record back
 abbrev pub SheetRefusedLaw : Type 0
 SheetRefusedLaw =
-    (f : Figures) (p : Plant) (s : List (Finding Float)) (r : Refusal)
-    → (sheet_step f p s).told ≡ Err r → sheet_step f p s ≡ sheet_refused p r
+    (p : Plant) (s : List (Finding Float)) (r : Refusal)
+    → (sheet_step p s).told ≡ Err r → sheet_step p s ≡ sheet_refused p r
 
 -- where none applies, the counts are added to the sludge tank, nothing else of the record moves, and what lies unseen is told
 abbrev pub SheetAddsLaw : Type 0
 SheetAddsLaw =
-    (f : Figures) (p : Plant) (s : List (Finding Float)) (u : Unseen)
-    → (sheet_step f p s).told ≡ Ok u
-    → sheet_step f p s
+    (p : Plant) (s : List (Finding Float)) (u : Unseen)
+    → (sheet_step p s).told ≡ Ok u
+    → sheet_step p s
     ≡ record {
       told = Ok (unseen_of s);
-      plant = record { sludge = added p.sludge (counts_of s); digester = p.digester; reject = p.reject };
+      plant = record { sludge = added p.sludge (counts_of s); digester = p.digester; reject = p.reject; figures = p.figures };
     }

@@ -1,7 +1,6 @@
 // A sheet into the sludge tank.
 ghost use Rattle.std.specs.Prelude.{◌≡◌, map, count_by};
 ghost use Rattle.vectors.specs.Columns.{asm1_ceilings, Below};
-ghost use Rattle.vectors.specs.Figures.{house};
 ghost use Rattle.sheets.specs.Value.{limit, missing};
 ghost use Rattle.sheets.specs.Sheet.{sheet_step, sheet_received, unseen_by};
 
@@ -28,9 +27,10 @@ pub struct SheetOutcome {
     pub plant: Plant,
 }
 
-// Refusals 13 and 14, at the first bad column, and then receive's 1 and 10.
+// Refusals 13 and 14, at the first bad column, and then receive's 15, 1 and 10.
 pub fn receive_sheet(plant: Plant, sheet: [Finding<f32>; 13]) -> SheetOutcome
-    ensures { result ≡ sheet_step house plant sheet }
+    ensures outcome { result ≡ sheet_step plant sheet }
+    ensures figures { result.plant.figures ≡ plant.figures }
 {
     match read_sheet(sheet) {
         Ok(readings) => {

@@ -5,7 +5,7 @@
 use plant::{Answer, Plant};
 use refusals::Refusal;
 use test_show::places::asm1::SS;
-use vectors::{Milligrams, Ticks};
+use vectors::{Figures, Milligrams, Ticks};
 
 // Buffers of no byte, of one, around 512, and longer than any answer: the first bytes of a space.
 fn main() {
@@ -17,7 +17,7 @@ fn main() {
     }
 }
 
-// Lines of each kind, held lines, the longest answer, and each kind of answer handed back.
+// Lines of each kind, held lines, both on a record whose figures are no permitted set, the longest answer, and each kind of answer handed back.
 fn all(buf: &mut [u8]) {
     for s in LINES {
         line(buf, s);
@@ -25,6 +25,7 @@ fn all(buf: &mut [u8]) {
     for ss in [0, 1000000000000, 1000000000001] {
         held(buf, ss);
     }
+    outside(buf);
     longest(buf);
     each_kind_handed_back(buf);
 }
@@ -44,22 +45,48 @@ const LINES: [&[u8]; 9] = [
 
 // The answer to a line on a fresh record.
 fn line(buf: &mut [u8], s: &[u8]) {
+    line_on(plant::fresh(), buf, s);
+}
+
+// The answer to a line on a record.
+fn line_on(p: Plant, buf: &mut [u8], s: &[u8]) {
     test_show::fill(buf);
-    let a = lines::answer_line(plant::fresh(), s, buf);
+    let a = lines::answer_line(p, s, buf);
     test_show::number(b"refusal ", plant::refusal_of(a.outcome.answer));
     tell(buf, a.length);
 }
 
 // The held line of a record with ss in its reject tank.
 fn held(buf: &mut [u8], ss: u64) {
+    held_of(buf, above(ss));
+}
+
+// The held line of a record.
+fn held_of(buf: &mut [u8], p: Plant) {
     test_show::fill(buf);
-    let p = Plant {
-        reject: test_show::with([0; 13], &[(SS, ss)]),
-        ..plant::fresh()
-    };
     let h = lines::held_line(p, buf);
     test_show::number(b"refusal ", h.refusal.map_or(0, |r| r.number()));
     tell(buf, h.length);
+}
+
+// Figures that are no permitted set: 15 behind 12 and 11, and before 1 and 2.
+fn outside(buf: &mut [u8]) {
+    let p = Plant {
+        figures: Figures::from([0; 9]),
+        ..above(1000000000001)
+    };
+    for s in LINES {
+        line_on(p, buf, s);
+    }
+    held_of(buf, p);
+}
+
+// A fresh record but for ss in its reject tank.
+fn above(ss: u64) -> Plant {
+    Plant {
+        reject: test_show::with([0; 13], &[(SS, ss)]),
+        ..plant::fresh()
+    }
 }
 
 // The longest answer that there is: a release with twenty digits in each column.

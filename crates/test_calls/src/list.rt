@@ -1,8 +1,9 @@
-// A list of calls and previews from a fresh record, with the sums of demand 3 added up from the calls and their answers.
+// A list of calls and previews from a fresh record of any figures, with the sums of demand 3 added up from the calls and their answers.
 use plant::{Answer, Call, Outcome, Plant, Request};
 use std::ops::Add;
 use test_show::places::{asm1, digester};
-use vectors::Milligrams;
+use test_show::sets;
+use vectors::{Figures, HOUSE, Milligrams};
 
 // One total of each balance.
 #[derive(Clone, Copy, Default)]
@@ -36,9 +37,22 @@ pub struct Run {
     pub accepted: u64,
 }
 
-// Calls by a fixed sequence of numbers, and writes the four balances.
+// The four balances with the house set, and with sets of other figures.
 pub fn balances() {
-    let mut run = start();
+    balances_of(HOUSE);
+    for set in [
+        sets::DAIRY,
+        sets::GREATEST,
+        sets::LEAST,
+        sets::LEAST_BY_LIPID,
+    ] {
+        balances_of(Figures::from(set));
+    }
+}
+
+// Calls by a fixed sequence of numbers, and writes the four balances.
+fn balances_of(figures: Figures) {
+    let mut run = start(figures);
     let mut x: u64 = 20261115;
     for i in 0..240 {
         run = called(run, request(run.plant, x / 64, i));
@@ -47,10 +61,10 @@ pub fn balances() {
     report(run);
 }
 
-// The beginning of a list: a fresh record, and nothing in the sums.
-pub fn start() -> Run {
+// The beginning of a list: a fresh record of these figures, and nothing in the sums.
+pub fn start(figures: Figures) -> Run {
     Run {
-        plant: plant::fresh(),
+        plant: plant::make(figures).plant,
         received: Amounts::default(),
         gone: Amounts::default(),
         accepted: 0,
@@ -66,7 +80,7 @@ fn next(x: u64) -> u64 {
 pub fn called(run: Run, r: Request) -> Run {
     let seen = requests::preview(run.plant, r);
     let o = requests::answer_request(seen.plant, r);
-    let (came, went) = moved(r, o);
+    let (came, went) = moved(run.plant.figures, r, o);
     let accepted = !matches!(o.answer, Answer::Refused(_));
     Run {
         plant: o.plant,
@@ -77,11 +91,11 @@ pub fn called(run: Run, r: Request) -> Run {
 }
 
 // What an accepted receive was handed, and what was released, burnt, reduced, vented or stripped.
-fn moved(r: Request, o: Outcome) -> (Amounts, Amounts) {
+fn moved(f: Figures, r: Request, o: Outcome) -> (Amounts, Amounts) {
     let none = Amounts::default();
     match (r.call, o.answer) {
-        (_, Answer::Received) => (totals_of(r.sludge), none),
-        (_, Answer::Released) => (none, totals_of(o.vector)),
+        (_, Answer::Received) => (totals_of(f, r.sludge), none),
+        (_, Answer::Released) => (none, totals_of(f, o.vector)),
         (
             _,
             Answer::Fed {
@@ -113,12 +127,12 @@ fn cod(n: u64) -> Amounts {
     }
 }
 
-// The totals of an ASM1 vector.
-fn totals_of(v: [u64; 13]) -> Amounts {
-    if vectors::is_within(v) {
+// The totals of an ASM1 vector by a set of figures.
+fn totals_of(f: Figures, v: [u64; 13]) -> Amounts {
+    if vectors::is_permitted(f) && vectors::is_within(v) {
         return Amounts {
             cod: vectors::cod(v).0,
-            tkn: vectors::tkn(vectors::HOUSE, v).0,
+            tkn: vectors::tkn(f, v).0,
             oxygen: v[asm1::SO],
             nitrate: v[asm1::SNO],
         };

@@ -5,7 +5,7 @@ use plant::{Call, Request};
 
 // One receive, four rounds of feed, return, recycle and release, and the four balances.
 pub fn rounds() {
-    let mut run = called(start(), works());
+    let mut run = called(start(vectors::HOUSE), works());
     for _ in 0..4 {
         run = round(run);
     }

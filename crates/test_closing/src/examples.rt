@@ -3,6 +3,8 @@ use crate::write::example;
 use plant::Plant;
 use test_show::places::asm1::SALK;
 use test_show::places::digester::{CN, CO, SAA, SIC, SIN, SSU, XC};
+use test_show::sets;
+use vectors::Figures;
 
 // The ceilings, and the least number above each.
 const COD: u64 = 1000000000000;
@@ -64,6 +66,31 @@ pub fn record_above() {
         ..plant::fresh()
     };
     example(b"reject above", reject, d);
+}
+
+// Refusal 15, before 1: the record's figures are no permitted set.
+pub fn figures_outside() {
+    let outside = Plant {
+        figures: Figures::from([0; 9]),
+        ..plant::fresh()
+    };
+    example(b"figures outside", outside, of(&[(SSU, COD_OVER)]));
+    let above = Plant {
+        reject: test_show::with([0; 13], &[(SALK, COD_OVER)]),
+        ..outside
+    };
+    example(b"15 before 1", above, of(&[(SSU, 1)]));
+}
+
+// With a dairy's figures: nitrogen that closes with them and not with the house set. Of xc 2 they hold 820 ticks.
+pub fn dairy() {
+    let p = Plant {
+        digester: of(&[(SSU, 2), (SIN, 820)]),
+        figures: Figures::from(sets::DAIRY),
+        ..plant::fresh()
+    };
+    example(b"dairy", p, of(&[(XC, 2)]));
+    example(b"dairy, one more", p, of(&[(XC, 1), (SAA, 1)]));
 }
 
 // Refusal 3: a proposed column is above its ceiling, also one that would be replaced; or the sin that closes is.

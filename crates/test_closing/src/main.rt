@@ -15,4 +15,6 @@ fn main() {
     examples::column_above();
     examples::open();
     examples::two_apply();
+    examples::figures_outside();
+    examples::dairy();
 }

@@ -4,6 +4,7 @@ use plant::Plant;
 use sheets::Finding;
 use sheets::Finding::{BelowLimit, Measured, NotSampled};
 use test_show::places::asm1::{SALK, SNO, SO, SS};
+use vectors::Figures;
 
 // Thirteen measured values, thirteen limits, nothing sampled, and one of all kinds.
 pub fn sheets() {
@@ -47,7 +48,7 @@ pub fn first_bad_column() {
     example(b"both at one column", plant::fresh(), sheet(&[(SS, least)]));
 }
 
-// Refusals 1 and 10 stand behind 13 and 14.
+// Refusals 15, 1 and 10 stand behind 13 and 14.
 pub fn behind() {
     let high = Measured(2000000000.0);
     let below = Measured(-1.0);
@@ -55,6 +56,13 @@ pub fn behind() {
     example(b"record above", above(), measured());
     example(b"record above, 13", above(), sheet(&[(SALK, below)]));
     example(b"record above, 14", above(), sheet(&[(SALK, high)]));
+    let outside = Plant {
+        figures: Figures::from([0; 9]),
+        ..above()
+    };
+    example(b"figures outside", outside, measured());
+    example(b"figures outside, 13", outside, sheet(&[(SALK, below)]));
+    example(b"figures outside, 14", outside, sheet(&[(SALK, high)]));
     example(b"no room", held(), sheet(&[(SS, full)]));
     example(b"no room, 14", held(), sheet(&[(SS, full), (SALK, high)]));
     example(

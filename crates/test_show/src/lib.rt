@@ -2,10 +2,12 @@
 //
 //   pattern   a pattern in a lent buffer, and whether it is there still
 //   places    where the columns stand in the two vectors
+//   sets      sets of figures
 #![tactic(auto)]
 
 mod pattern;
 pub mod places;
+pub mod sets;
 
 pub use pattern::{behind, fill};
 

@@ -4,10 +4,13 @@
 --   Additive        a total of a sum is the sum of the totals
 --   Splits          a total of a vector is that of its draw plus that of its rest
 --   TotalLaws       COD, TKN, oxygen and nitrate of both vectors are all of these
-use Rattle.std.specs.Prelude.{List, ◌≡◌, ℕ, ◌+◌, ◌≤◌, get_or, replicate}
+--   PermittedLaw    the test of a set of figures is the inequalities
+use Rattle.std.specs.Prelude.{true, List, ◌≡◌, ℕ, ◌+◌, ◌≤◌, get_or, replicate}
 use Rattle.vectors.specs.declared.figures.Figures.{Figures}
+use Rattle.vectors.specs.Figures.{permitted, Permitted}
 use Rattle.vectors.specs.Columns.{added}
-use Rattle.vectors.specs.Totals.{asm1_cod, asm1_tkn, asm1_oxygen, asm1_nitrate, digester_cod, digester_tkn, digester_oxygen, digester_nitrate}
+use Rattle.vectors.specs.Totals.{asm1_cod, asm1_tkn, asm1_oxygen, asm1_nitrate, digester_cod, digester_tkn, digester_oxygen}
+use Rattle.vectors.specs.Totals.{digester_nitrate}
 use Rattle.vectors.specs.Draw.{drawn, rest}
 
 -- ---- draws and sums
@@ -39,3 +42,12 @@ pub record TotalLaws : Type 0 where
   pub digester_tkn : (f : Figures) → Linear (digester_tkn f)
   pub digester_oxygen : Linear digester_oxygen
   pub digester_nitrate : Linear digester_nitrate
+
+-- ---- figures
+
+pub record PermittedIs (f : Figures) : Type 0 where
+  pub bounded : permitted f ≡ true → Permitted f
+  pub passes : Permitted f → permitted f ≡ true
+
+abbrev pub PermittedLaw : Type 0
+PermittedLaw = (f : Figures) → PermittedIs f

@@ -50,7 +50,7 @@ where
 }
 
 // Whether each column is at most its ceiling. It goes through all columns, because a test that leaves early runs slower.
-fn all_low(v: &[u64], ceilings: &[u64]) -> bool
+pub(crate) fn all_low(v: &[u64], ceilings: &[u64]) -> bool
     ensures { result ≡ fold (λ ok p. ok && leb p.0 p.1) true (zip v.now ceilings.now) }
 {
     v.iter()

@@ -13,6 +13,7 @@
 //! Here: 004's formulas, the plant in double precision, the plant of the C library, a
 //! run of both, the table, the options.
 
+use second::figures::HOUSE;
 use second::host;
 use second::plant::{Call, Record};
 use second::random::Random;
@@ -280,7 +281,7 @@ struct ProvedPlant {
 
 /// COD, TKN, oxygen and nitrate of an ASM1 vector in counts.
 fn exact_measures(v: &Asm1) -> [u128; 4] {
-    [tables::cod_asm1(v), tables::tkn_asm1(v), v[asm1::SO].into(), v[asm1::SNO].into()]
+    [tables::cod_asm1(v), HOUSE.tkn_asm1(v), v[asm1::SO].into(), v[asm1::SNO].into()]
 }
 
 /// Adds four counts to four others.
@@ -291,7 +292,7 @@ fn add_counts(to: &mut [u128; 4], more: [u128; 4]) {
 impl ProvedPlant {
     /// The fresh plant.
     fn fresh() -> ProvedPlant {
-        let mut record = [u64::MAX; 52];
+        let mut record = [u64::MAX; 61];
         host::jilghvani_fresh(&mut record);
         ProvedPlant { record, received: [0; 4], out: [0; 4], accepted: 0 }
     }

@@ -26,10 +26,15 @@ pub fn long_session() -> &'static Session {
     })
 }
 
-/// So many lines of every kind, whole and damaged.
+/// So many lines of every kind, whole and damaged, for a fresh record of the house set.
 pub fn mixed_lines(seed: u64, count: usize) -> Vec<u8> {
+    mixed_lines_on(Plant::FRESH, seed, count)
+}
+
+/// The same for this record.
+pub fn mixed_lines_on(mut plant: Plant, seed: u64, count: usize) -> Vec<u8> {
     let mut trial = Trial::new(Random::new(seed));
-    let (mut plant, mut bytes, mut buffer) = (Plant::FRESH, Vec::new(), [0; 512]);
+    let (mut bytes, mut buffer) = (Vec::new(), [0; 512]);
     for _ in 0..count {
         let mut line = trial.line(&plant);
         while line.contains(&b'\n') {
@@ -81,8 +86,13 @@ pub fn lines_up_to(place: usize) -> Vec<u8> {
 
 /// What the second implementation gives for an input.
 pub fn right_output(input: &[u8]) -> Vec<u8> {
+    right_output_on(Plant::FRESH, input)
+}
+
+/// What it gives for an input on this record.
+pub fn right_output_on(plant: Plant, input: &[u8]) -> Vec<u8> {
     let mut printed = Vec::new();
-    session::run(&mut &input[..], &mut printed).expect("a vector takes every byte");
+    session::run_on(plant, &mut &input[..], &mut printed).expect("a vector takes every byte");
     printed
 }
 

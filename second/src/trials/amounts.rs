@@ -1,22 +1,24 @@
 //! Columns, vectors and records: ordinary ones of a scale, and now and then one at
 //! or above its ceiling or at a multiple of a house figure.
 
+use crate::figures::Figures;
 use crate::plant::Plant;
 use crate::random::Random;
 use crate::tables::*;
 
-/// The greatest ordinary amounts of a trial.
+/// The greatest ordinary amounts of a trial, and the permitted figures that they go by.
 #[derive(Clone, Copy, Debug)]
 pub struct Scale {
     pub cod: u64,
     pub ticks: u64,
     /// How many columns in a thousand stand near or above their ceiling.
     pub extreme: u64,
+    pub figures: Figures,
 }
 
 impl Scale {
-    /// One of the scales, from a jar to the ceilings.
-    pub fn any(random: &mut Random) -> Scale {
+    /// One of the scales, from a jar to the ceilings, by these figures.
+    pub fn any(random: &mut Random, figures: Figures) -> Scale {
         let (cod, ticks) = random.one_of(&[
             (20, 20_000),
             (50, 60_000),
@@ -26,7 +28,7 @@ impl Scale {
             (100_000_000_000, 200_000_000_000_000),
             (COD_CEILING, TICK_CEILING),
         ]);
-        Scale { cod, ticks, extreme: random.one_of(&[0, 0, 2, 10, 50]) }
+        Scale { cod, ticks, extreme: random.one_of(&[0, 0, 2, 10, 50]), figures }
     }
 
     /// The greatest ordinary amount of a column with this ceiling.
@@ -48,16 +50,37 @@ pub fn amount(random: &mut Random, scale: &Scale, ceiling: u64) -> u64 {
     match random.below(10) {
         0..=2 => 0,
         3 => random.below(20).min(greatest),
-        4 => near_multiple(random, greatest),
+        4 => near_multiple(random, &scale.figures, greatest),
         5 => random.below(greatest + 1),
         _ => random.sized(greatest),
     }
 }
 
-/// An amount within one of a multiple of a house figure.
-fn near_multiple(random: &mut Random, greatest: u64) -> u64 {
-    let figure = random.one_of(&[NXC, NAA, NBAC, IXB, 3496, 3497, 5, 9, 10, 1000]);
-    let multiple = figure * random.sized(greatest / figure);
+/// The greatest number that both are multiples of; zero is one of every number.
+fn common(a: u64, b: u64) -> u64 {
+    match b {
+        0 => a,
+        _ => common(b, a % b),
+    }
+}
+
+/// What amounts are near multiples of: the figures of nitrogen, the COD that fxi divides without
+/// a rest, that which fch and fli do, and others. ixe and ni follow where no other figure is the
+/// same, so that by the house set the choice is the one that it was before there were others.
+fn steps(figures: &Figures) -> Vec<u64> {
+    let Figures { ixb, ixe, nxc, ni, naa, nbac, fxi, fch, fli } = *figures;
+    let inert = 10_000 / common(10_000, fxi);
+    let parts = (fch + fli) / common(fch, fli);
+    let mut steps = vec![nxc, naa, nbac, ixb, 3496, 3497, inert, parts, 10, 1000];
+    steps.extend([ixe].iter().filter(|&&figure| figure != ixb));
+    steps.extend([ni].iter().filter(|&&figure| figure != nxc));
+    steps
+}
+
+/// An amount within one of a multiple of a step.
+fn near_multiple(random: &mut Random, figures: &Figures, greatest: u64) -> u64 {
+    let step = random.one_of(&steps(figures)).max(1);
+    let multiple = step * random.sized(greatest / step);
     (multiple + random.below(3)).saturating_sub(1).min(greatest)
 }
 
@@ -100,10 +123,11 @@ pub fn digester(random: &mut Random, scale: &Scale) -> Digester {
     vector(random, scale, &DIGESTER_CEILINGS)
 }
 
-/// A record; now and then a column of it is above its ceiling.
+/// A record of the scale's figures; now and then a column of it is above its ceiling.
 pub fn record(random: &mut Random, scale: &Scale) -> Plant {
     let sludge = asm1(random, scale);
-    Plant { sludge, digester: digester(random, scale), reject: asm1(random, scale) }
+    let (digester, reject) = (digester(random, scale), asm1(random, scale));
+    Plant { sludge, digester, reject, figures: scale.figures }
 }
 
 /// A vector with each column lowered to its ceiling.
@@ -124,6 +148,7 @@ pub fn record_within(random: &mut Random, scale: &Scale) -> Plant {
         sludge: lowered(&plant.sludge, &ASM1_CEILINGS),
         digester: lowered(&plant.digester, &DIGESTER_CEILINGS),
         reject: lowered(&plant.reject, &ASM1_CEILINGS),
+        ..plant
     }
 }
 
@@ -139,4 +164,22 @@ pub fn record_above(random: &mut Random, scale: &Scale) -> Plant {
         }
     }
     plant
+}
+
+#[cfg(test)]
+mod tests {
+    use super::*;
+    use crate::figures::HOUSE;
+    use crate::trials::figures::{DAIRY, EXTREMES};
+
+    /// The steps of the house set, and those of other sets by their own figures.
+    #[test]
+    fn steps_of_figures() {
+        assert_eq!(steps(&HOUSE), [280, 980, 875, 880, 3496, 3497, 5, 9, 10, 1000]);
+        // 7350 of 10000 are 147 of 200; 1200 and 5800 are 6 and 29 of 35.
+        let dairy = [410, 1120, 910, 850, 3496, 3497, 200, 35, 10, 1000, 640, 220];
+        assert_eq!(steps(&DAIRY), dairy);
+        assert_eq!(steps(&EXTREMES[0]), [1, 1, 0, 0, 3496, 3497, 1, 1, 10, 1000, 0]);
+        assert_eq!(steps(&EXTREMES[2])[6..], [1, 2, 10, 1000]);
+    }
 }

@@ -1,9 +1,10 @@
-//! Vectors and records at the points where the rules branch: each stage of the feed,
-//! the shortages of nitrogen, and the ceilings of the tanks that are added to.
+//! Vectors and records at the points where the rules branch by their figures: each stage of
+//! the feed, the shortages of nitrogen, and the ceilings of the tanks that are added to.
 
 use super::amounts::{self, Scale};
 use super::thousandths;
-use crate::convert;
+use crate::convert::{self, Inerts};
+use crate::figures::Figures;
 use crate::plant::{draw, Plant};
 use crate::random::Random;
 use crate::tables::*;
@@ -24,24 +25,25 @@ pub fn receive_to_edge(random: &mut Random, scale: &Scale, sludge: &Asm1) -> Asm
     if within(&v, &ASM1_CEILINGS) && within(sludge, &ASM1_CEILINGS) {
         for _ in 0..random.one_of(&[1, 1, 2, 3]) {
             let sum = std::array::from_fn(|column| sludge[column] + v[column]);
-            one_edge(random, &mut v, &sum);
+            one_edge(random, &scale.figures, &mut v, &sum);
         }
     }
     v
 }
 
 /// Moves one column of the received vector so that the sum stands at an edge.
-fn one_edge(random: &mut Random, v: &mut Asm1, sum: &Asm1) {
+fn one_edge(random: &mut Random, figures: &Figures, v: &mut Asm1, sum: &Asm1) {
     let burn = convert::burn(sum);
     let left = convert::left_after(sum, burn.burnt);
-    let saa = convert::amino_acids(sum, left[0]);
+    let saa = convert::amino_acids(figures, sum, left[0]);
+    let inerts = convert::inerts(figures, sum, saa);
     let (column, target) = match random.below(7) {
         0 => (asm1::SO, nudged(random, burn.available)),
         1 => nitrate_edge(random, v, burn.available - burn.oxygen),
         2 => (asm1::SS, nudged(random, burn.burnt)),
-        3 => (asm1::SND, nudged(random, NAA * left[0])),
-        4 => inert_edge(random, v, sum, saa),
-        5 => composite_edge(random, sum, &left, saa),
+        3 => (asm1::SND, nudged(random, figures.naa * left[0])),
+        4 => inert_edge(random, figures.ni, v, sum, &inerts),
+        5 => composite_edge(random, figures.nxc, sum, &left, &inerts),
         _ => {
             let column = random.index(13);
             (column, nudged(random, ASM1_CEILINGS[column]))
@@ -59,11 +61,16 @@ fn nitrate_edge(random: &mut Random, v: &mut Asm1, cod: u64) -> (usize, u64) {
 }
 
 /// Ammonia that just covers the inerts' need, or particulate nitrogen that just covers it alone.
-fn inert_edge(random: &mut Random, v: &mut Asm1, sum: &Asm1, saa: u64) -> (usize, u64) {
+fn inert_edge(
+    random: &mut Random,
+    ni: u64,
+    v: &mut Asm1,
+    sum: &Asm1,
+    inerts: &Inerts,
+) -> (usize, u64) {
     let more = random.sized(sum[asm1::SI] + 20);
     v[asm1::SI] += more;
-    let inerts = convert::inerts(sum, saa);
-    let missing = (inerts.need + NI * more).saturating_sub(inerts.pool);
+    let missing = (inerts.need + ni * more).saturating_sub(inerts.pool);
     match random.percent(60) {
         true => (asm1::SNH, nudged(random, missing)),
         false => (asm1::XND, nudged(random, sum[asm1::XND] + missing)),
@@ -71,18 +78,25 @@ fn inert_edge(random: &mut Random, v: &mut Asm1, sum: &Asm1, saa: u64) -> (usize
 }
 
 /// Particulate nitrogen that just lets all the rest become composites.
-fn composite_edge(random: &mut Random, sum: &Asm1, left: &[u64; 4], saa: u64) -> (usize, u64) {
-    let inerts = convert::inerts(sum, saa);
+fn composite_edge(
+    random: &mut Random,
+    nxc: u64,
+    sum: &Asm1,
+    left: &[u64; 4],
+    inerts: &Inerts,
+) -> (usize, u64) {
     let rest = left[1] + left[2] + left[3] + sum[asm1::XI] + sum[asm1::XP] - inerts.xi;
-    let missing = (inerts.need + NXC * rest).saturating_sub(inerts.pool);
+    let missing = (inerts.need + nxc * rest).saturating_sub(inerts.pool);
     (asm1::XND, nudged(random, sum[asm1::XND] + missing))
 }
 
-/// Ammonia that brings the digester's TKN this far from a multiple of ixe, once it is fed.
-pub fn ammonia_to_multiple(digester: &Digester, off: i64) -> Asm1 {
-    let over = (tkn_digester(digester) % u128::from(IXE)) as i64;
+/// Ammonia that brings the digester's TKN this far from a multiple of ixe, once it is fed; of 1
+/// where ixe is 0.
+pub fn ammonia_to_multiple(figures: &Figures, digester: &Digester, off: i64) -> Asm1 {
+    let ixe = figures.ixe.max(1);
+    let over = (figures.tkn_digester(digester) % u128::from(ixe)) as i64;
     let mut v = [0; 13];
-    v[asm1::SNH] = (2 * IXE as i64 - over + off) as u64;
+    v[asm1::SNH] = (2 * ixe as i64 - over + off) as u64;
     v
 }
 
@@ -123,7 +137,7 @@ pub fn record_at_edge(random: &mut Random, scale: &Scale) -> Plant {
     match random.below(4) {
         0 => full_digester(random, &mut plant),
         1 => full_reject(random, &mut plant),
-        2 => short_return(random, &mut plant.digester),
+        2 => short_return(random, &scale.figures, &mut plant.digester),
         _ => {
             let v = receive_to_edge(random, scale, &[0; 13]);
             plant.sludge = amounts::lowered(&v, &ASM1_CEILINGS);
@@ -135,7 +149,7 @@ pub fn record_at_edge(random: &mut Random, scale: &Scale) -> Plant {
 /// Fills a digester column so that a feed just fits or passes the ceiling by one.
 fn full_digester(random: &mut Random, plant: &mut Plant) {
     let k = if random.percent(50) { 1000 } else { thousandths(random).min(1000) };
-    if let Ok((converted, _)) = convert::feed(&draw(&plant.sludge, k)) {
+    if let Ok((converted, _)) = convert::feed(&plant.figures, &draw(&plant.sludge, k)) {
         let column = random.index(26);
         let room = DIGESTER_CEILINGS[column].saturating_sub(converted[column]);
         plant.digester[column] = (room + random.below(2)).min(DIGESTER_CEILINGS[column]);
@@ -145,7 +159,7 @@ fn full_digester(random: &mut Random, plant: &mut Plant) {
 /// Fills a reject column so that a return just fits or passes the ceiling by one.
 fn full_reject(random: &mut Random, plant: &mut Plant) {
     let k = if random.percent(50) { 1000 } else { thousandths(random).min(1000) };
-    if let Ok((converted, _)) = convert::give_back(&draw(&plant.digester, k)) {
+    if let Ok((converted, _)) = convert::give_back(&plant.figures, &draw(&plant.digester, k)) {
         let column = random.index(13);
         let room = ASM1_CEILINGS[column].saturating_sub(converted[column]);
         plant.reject[column] = (room + random.below(2)).min(ASM1_CEILINGS[column]);
@@ -153,10 +167,10 @@ fn full_reject(random: &mut Random, plant: &mut Plant) {
 }
 
 /// Gives a digester just the nitrogen that its inerts return with, or one tick less or more.
-pub fn short_return(random: &mut Random, v: &mut Digester) {
+pub fn short_return(random: &mut Random, figures: &Figures, v: &mut Digester) {
     v[digester::XI] = 1 + random.sized(v[digester::XI].max(20)).min(COD_CEILING - 1);
     v[digester::SIN] = 0;
-    let without = tkn_digester(v) as u64;
-    let missing = (IXE * v[digester::XI]).saturating_sub(without);
+    let without = figures.tkn_digester(v) as u64;
+    let missing = (figures.ixe * v[digester::XI]).saturating_sub(without);
     v[digester::SIN] = nudged(random, missing).min(TICK_CEILING);
 }

@@ -1,5 +1,6 @@
 //! What the tools try on the link. Everything is drawn from a `Random`.
 //!
+//! - `figures`: sets of figures, permitted and out of bounds;
 //! - `amounts`: columns, vectors and records of every size;
 //! - `edges`: vectors and records at the points where the rules branch;
 //! - `proposals`: settles that close or just do not, and proposals to be closed;
@@ -15,6 +16,7 @@
 pub mod amounts;
 pub mod damage;
 pub mod edges;
+pub mod figures;
 pub mod order;
 pub mod previews;
 pub mod proposals;
@@ -22,6 +24,7 @@ pub mod sheets;
 pub mod table;
 pub mod writing;
 
+use crate::figures::HOUSE;
 use crate::plant::{Call, Plant};
 use crate::random::Random;
 use crate::tables::*;
@@ -92,20 +95,34 @@ pub fn thousandths(random: &mut Random) -> u64 {
 }
 
 impl Trial {
-    /// A source of lines whose ordinary amounts are of one scale.
+    /// A source of lines whose ordinary amounts are of one scale. They go by the house set until
+    /// a record has other figures.
     pub fn new(mut random: Random) -> Trial {
-        let scale = Scale::any(&mut random);
+        let scale = Scale::any(&mut random, HOUSE);
         Trial { random, scale, steps: VecDeque::new(), behind: None }
     }
 
-    /// A record to begin with or to go on with: of any size, at an edge, or above a ceiling.
+    /// A record to begin with or to go on with: of any size, at an edge, or above a ceiling; of the
+    /// house set, of another permitted set, or now and then of figures out of bounds.
     pub fn record(&mut self) -> Plant {
-        match self.random.below(11) {
-            0 => Plant::FRESH,
+        self.scale.figures = figures::any(&mut self.random);
+        let mut plant = match self.random.below(11) {
+            0 => Plant::fresh(self.scale.figures),
             1 => amounts::record_above(&mut self.random, &self.scale),
             2..=4 => edges::record_at_edge(&mut self.random, &self.scale),
             5 => self.record_to_recycle(),
             _ => amounts::record(&mut self.random, &self.scale),
+        };
+        if self.random.percent(4) {
+            plant.figures = figures::outside(&mut self.random);
+        }
+        plant
+    }
+
+    /// Goes by the figures of this record from now on, where they are permitted.
+    fn follow(&mut self, plant: &Plant) {
+        if plant.figures.permitted() {
+            self.scale.figures = plant.figures;
         }
     }
 
@@ -163,16 +180,18 @@ impl Trial {
 
     /// The next call for this record.
     pub fn call(&mut self, plant: &Plant) -> Call {
+        self.follow(plant);
+        let figures = &self.scale.figures;
         match self.steps.pop_front() {
             Some(Step::FeedAll) => Call::Feed(1000),
-            Some(Step::Settle) => proposals::settle(&mut self.random, &plant.digester),
+            Some(Step::Settle) => proposals::settle(&mut self.random, figures, &plant.digester),
             Some(Step::ReturnAll) => Call::Return(1000),
             Some(Step::Recycle(k)) => Call::Recycle(k),
             Some(Step::ReceiveToMultiple(off)) => {
-                Call::Receive(edges::ammonia_to_multiple(&plant.digester, off))
+                Call::Receive(edges::ammonia_to_multiple(figures, &plant.digester, off))
             }
             Some(Step::SettleInerts(more)) => {
-                Call::Settle(0, proposals::inert_heavy(&plant.digester, more))
+                Call::Settle(0, proposals::inert_heavy(figures, &plant.digester, more))
             }
             None => self.free_call(plant),
         }
@@ -181,6 +200,7 @@ impl Trial {
     /// An ASM1 vector to be converted by itself: the sludge, one at an edge of the feed, one
     /// with a column above its ceiling, or any.
     pub fn asm1(&mut self, plant: &Plant) -> Asm1 {
+        self.follow(plant);
         let (random, scale) = (&mut self.random, &self.scale);
         let mut v = match random.below(10) {
             0 | 1 => plant.sludge,
@@ -196,18 +216,26 @@ impl Trial {
     /// A digester vector to be converted by itself: the digester's, one at the edge of the
     /// return, one with a column above its ceiling, or any.
     pub fn digester(&mut self, plant: &Plant) -> Digester {
+        self.follow(plant);
         let (random, scale) = (&mut self.random, &self.scale);
         let mut v = match random.percent(30) {
             true => plant.digester,
             false => amounts::digester(random, scale),
         };
         if random.percent(40) {
-            edges::short_return(random, &mut v);
+            edges::short_return(random, &scale.figures, &mut v);
         }
         if random.percent(5) {
             amounts::put_above(random, &mut v, &DIGESTER_CEILINGS);
         }
         v
+    }
+
+    /// A proposal for this record to be closed. The digester's own sin is changed where that
+    /// brings the proposal to an edge.
+    pub fn to_close(&mut self, plant: &mut Plant) -> Digester {
+        self.follow(plant);
+        proposals::to_close(&mut self.random, &self.scale.figures, &mut plant.digester)
     }
 
     /// A call that no step before it asks for.
@@ -220,7 +248,7 @@ impl Trial {
                 Call::Receive(edges::receive_to_edge(random, &self.scale, &plant.sludge))
             }
             38..=52 => Call::Feed(thousandths(random)),
-            53..=71 => proposals::settle(random, &plant.digester),
+            53..=71 => proposals::settle(random, &self.scale.figures, &plant.digester),
             72..=82 => Call::Return(thousandths(random)),
             83..=90 => Call::Release(thousandths(random)),
             91..=96 if random.percent(5) => self.recycle_edge(plant),

@@ -1,8 +1,10 @@
 //! Proposals, made from the digester's own contents. To settle: those that close, the
-//! same with one figure off, and those that put as much COD as they can into inerts.
-//! To be closed: those that a gas and a sin close, and those that just none does.
+//! same with one number off, and those that put as much COD as they can into inerts.
+//! To be closed: those that a gas and a sin close, and those that just none does. Their
+//! nitrogen goes by figures that are permitted.
 
 use super::amounts;
+use crate::figures::Figures;
 use crate::plant::Call;
 use crate::random::Random;
 use crate::tables::*;
@@ -23,18 +25,18 @@ const FREE: [usize; 10] = [
 ];
 
 /// The COD columns with nitrogen.
-fn bound() -> Vec<usize> {
-    digester::COD.filter(|&column| nitrogen_of(column) > 0).collect()
+fn bound(figures: &Figures) -> Vec<usize> {
+    digester::COD.filter(|&column| figures.nitrogen_of(column) > 0).collect()
 }
 
 /// A settle: most often one that closes, else one that just does not, seldom any.
-pub fn settle(random: &mut Random, old: &Digester) -> Call {
-    let (mut gas, mut v) = closing(random, old);
+pub fn settle(random: &mut Random, figures: &Figures, old: &Digester) -> Call {
+    let (mut gas, mut v) = closing(random, figures, old);
     match random.below(20) {
         0..=10 => {}
         11..=18 => spoil(random, &mut gas, &mut v),
         _ => {
-            v = any(random);
+            v = any(random, figures);
             gas = random.sized(u64::MAX);
         }
     }
@@ -42,10 +44,10 @@ pub fn settle(random: &mut Random, old: &Digester) -> Call {
 }
 
 /// A proposal that closes over this digester, with its gas.
-pub fn closing(random: &mut Random, old: &Digester) -> (u64, Digester) {
+pub fn closing(random: &mut Random, figures: &Figures, old: &Digester) -> (u64, Digester) {
     let mut kept = *old;
     kept[digester::SIC] = random.sized(COD_CEILING);
-    let (cod, tkn) = (cod_digester(old), tkn_digester(old));
+    let (cod, tkn) = (cod_digester(old), figures.tkn_digester(old));
     if cod > 22 * u128::from(COD_CEILING) || tkn > u128::from(u64::MAX) || random.percent(10) {
         return (0, kept);
     }
@@ -57,7 +59,7 @@ pub fn closing(random: &mut Random, old: &Digester) -> (u64, Digester) {
     for column in [digester::SIC, digester::CO, digester::CN] {
         v[column] = kept[column];
     }
-    match share_out(random, &mut v, cod as u64 - gas, tkn as u64) {
+    match share_out(random, figures, &mut v, [cod as u64 - gas, tkn as u64]) {
         true => (gas, v),
         false => (0, kept),
     }
@@ -73,18 +75,24 @@ fn part(random: &mut Random, amount: u64) -> u64 {
 }
 
 /// Shares COD and TKN out over a proposal's columns; false where a ceiling is in the way.
-fn share_out(random: &mut Random, v: &mut Digester, mut cod: u64, mut tkn: u64) -> bool {
-    let mut bound = bound();
+fn share_out(
+    random: &mut Random,
+    figures: &Figures,
+    v: &mut Digester,
+    [mut cod, mut tkn]: [u64; 2],
+) -> bool {
+    let mut bound = bound(figures);
     random.shuffle(&mut bound);
     let chance = random.one_of(&[0, 20, 60, 100]);
     for column in bound {
         if !random.percent(chance) {
             continue;
         }
-        let most = min(min(cod, tkn / nitrogen_of(column)), COD_CEILING);
+        let nitrogen = figures.nitrogen_of(column);
+        let most = min(min(cod, tkn / nitrogen), COD_CEILING);
         v[column] = part(random, most);
         cod -= v[column];
-        tkn -= nitrogen_of(column) * v[column];
+        tkn -= nitrogen * v[column];
     }
     let mut free = FREE;
     random.shuffle(&mut free);
@@ -106,7 +114,7 @@ fn fill(v: &mut Digester, columns: &[usize], mut cod: u64) -> u64 {
     cod
 }
 
-/// Puts one or more figures of a proposal off.
+/// Puts one or more numbers of a proposal off.
 fn spoil(random: &mut Random, gas: &mut u64, v: &mut Digester) {
     for _ in 0..random.one_of(&[1, 1, 1, 2, 3]) {
         let step = random.one_of(&[1, u64::MAX]);
@@ -143,12 +151,14 @@ fn wrapped_gas(random: &mut Random, gas: &mut u64, v: &mut Digester) {
 }
 
 /// A proposal that closes and holds as much xi as its TKN can return, and this many more.
-pub fn inert_heavy(old: &Digester, more: i64) -> Digester {
-    let (cod, tkn) = (cod_digester(old) as u64, tkn_digester(old) as u64);
-    let most = (tkn / IXE).saturating_add_signed(more);
+pub fn inert_heavy(figures: &Figures, old: &Digester, more: i64) -> Digester {
+    let (cod, tkn) = (cod_digester(old) as u64, figures.tkn_digester(old) as u64);
+    // A figure of 0 sets no limit.
+    let most = |figure: u64| tkn.checked_div(figure).unwrap_or(u64::MAX);
+    let inert = most(figures.ixe).saturating_add_signed(more);
     let mut v = [0; 26];
-    v[digester::XI] = min(min(most, tkn / NI), min(cod, COD_CEILING));
-    v[digester::SIN] = tkn - NI * v[digester::XI];
+    v[digester::XI] = min(min(inert, most(figures.ni)), min(cod, COD_CEILING));
+    v[digester::SIN] = tkn - figures.ni * v[digester::XI];
     v[digester::XLI] = cod - v[digester::XI];
     v[digester::CO] = old[digester::CO];
     v[digester::CN] = old[digester::CN];
@@ -157,24 +167,24 @@ pub fn inert_heavy(old: &Digester, more: i64) -> Digester {
 
 /// A proposal for this digester to be closed: as it is, any, or one that closes, brought to an
 /// edge or two. The digester's own sin is changed where that brings the proposal to an edge.
-pub fn to_close(random: &mut Random, old: &mut Digester) -> Digester {
+pub fn to_close(random: &mut Random, figures: &Figures, old: &mut Digester) -> Digester {
     let mut v = match random.below(10) {
         0 => *old,
-        1 => any(random),
-        _ => closing(random, old).1,
+        1 => any(random, figures),
+        _ => closing(random, figures, old).1,
     };
     for _ in 0..random.one_of(&[0, 1, 1, 1, 2, 3]) {
         match random.below(8) {
             0 => cod_edge(random, old, &mut v),
             1 | 2 => {
-                move_all(random, &mut v, &FREE, &bound());
-                nitrogen_edge(random, old, &v, 0);
+                move_all(random, &mut v, &FREE, &bound(figures));
+                nitrogen_edge(random, figures, old, &v, 0);
             }
             3 => {
-                move_all(random, &mut v, &bound(), &FREE);
-                nitrogen_edge(random, old, &v, TICK_CEILING);
+                move_all(random, &mut v, &bound(figures), &FREE);
+                nitrogen_edge(random, figures, old, &v, TICK_CEILING);
             }
-            4 => put_replaced(random, &mut v),
+            4 => put_replaced(random, figures, &mut v),
             5 => amounts::put_above(random, &mut v, &DIGESTER_CEILINGS),
             6 => move_one(random, &mut v),
             _ => one_off(random, &mut v),
@@ -184,8 +194,8 @@ pub fn to_close(random: &mut Random, old: &mut Digester) -> Digester {
 }
 
 /// A digester vector of any scale.
-fn any(random: &mut Random) -> Digester {
-    let scale = amounts::Scale::any(random);
+fn any(random: &mut Random, figures: &Figures) -> Digester {
+    let scale = amounts::Scale::any(random, *figures);
     amounts::digester(random, &scale)
 }
 
@@ -210,17 +220,24 @@ fn move_all(random: &mut Random, v: &mut Digester, from: &[usize], to: &[usize])
 
 /// Changes the digester's sin so that the proposal closes with this sin, or a tick more or less;
 /// not where its own sin would be below zero or above its ceiling.
-fn nitrogen_edge(random: &mut Random, old: &mut Digester, v: &Digester, closes: u64) {
+fn nitrogen_edge(
+    random: &mut Random,
+    figures: &Figures,
+    old: &mut Digester,
+    v: &Digester,
+    closes: u64,
+) {
     let off = i128::from(random.below(3)) - 1;
-    let wanted = tkn_but_sin(v) as i128 + i128::from(closes) + off - tkn_but_sin(old) as i128;
+    let bound = |v: &Digester| figures.tkn_but_sin(v) as i128;
+    let wanted = bound(v) + i128::from(closes) + off - bound(old);
     if (0..=i128::from(TICK_CEILING)).contains(&wanted) {
         old[digester::SIN] = wanted as u64;
     }
 }
 
 /// Puts anything into the columns that closing replaces.
-fn put_replaced(random: &mut Random, v: &mut Digester) {
-    let other = any(random);
+fn put_replaced(random: &mut Random, figures: &Figures, v: &mut Digester) {
+    let other = any(random, figures);
     for column in [digester::SIN, digester::CO, digester::CN] {
         v[column] = other[column];
     }

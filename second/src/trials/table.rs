@@ -1,7 +1,8 @@
 //! The table of `exact_sheets.py`: sheets with the answers that rational arithmetic gives, and
 //! what follows from these on other records than a fresh one.
 
-use crate::plant::{Plant, Record, Refusal};
+use super::figures::just_outside;
+use crate::plant::{Plant, Record, Refusal, TANKS};
 use crate::sheets::Sheet;
 use crate::tables::*;
 use std::str::FromStr;
@@ -80,17 +81,21 @@ impl Row {
     }
 
     /// The answers on a fresh record; on one with a column above its ceiling, each in its turn; on
-    /// full tanks with room for just these counts; and on the same, fuller by one in a column that
-    /// counts, each in its turn.
+    /// the same with figures out of bounds, each of them in its turn; on full tanks with room for
+    /// just these counts; and on the same, fuller by one in a column that counts, each in its turn.
     pub fn cases(&self) -> Vec<Case> {
         let room = std::array::from_fn(|column| ASM1_CEILINGS[column] - self.counts[column]);
-        let full = Plant { sludge: room, digester: DIGESTER_CEILINGS, reject: ASM1_CEILINGS };
+        let (digester, reject) = (DIGESTER_CEILINGS, ASM1_CEILINGS);
+        let full = Plant { sludge: room, digester, reject, ..Plant::FRESH };
         let mut cases = vec![self.case(Plant::FRESH, None), self.case(full, None)];
-        for column in 0..52 {
+        for column in 0..TANKS {
             let mut above = full.columns();
             above[column] = TICK_CEILING + 1;
             let above = Plant::from_columns(&above);
             cases.push(self.case(above, Some(Refusal::RecordAboveCeiling)));
+            let figures = just_outside(&full.figures)[column % 12];
+            let outside = Plant { figures, ..above };
+            cases.push(self.case(outside, Some(Refusal::FiguresOutOfBounds)));
         }
         for column in (0..13).filter(|&column| self.counts[column] > 0) {
             let mut fuller = full;

@@ -5,8 +5,8 @@
 --   closed_is, close-passed                  the same of close, whose tests pass where there is no gap
 --   Fitting                                  what there is to be closed: the three gaps are none
 --   close-law, none-law, only-law, gap-law   CloseLaw, NoneLaw, OnlyLaw, GapLaw
-use mathlib.Core.Bool.{Bool, true, false}
-use mathlib.Core.List.{List, ◌∷◌}
+use mathlib.Core.Bool.{true}
+use mathlib.Core.List.{List}
 use mathlib.Core.Path.{◌≡◌, refl, sym, ap, subst, ◌∙◌}
 use Prim.Native.Nat.{ℕ, ◌+◌, ◌-◌, ◌≤◌}
 use native.Mathlib.Omega.{arith}
@@ -20,14 +20,15 @@ use Rattle.vectors.specs.Totals.{digester_cod, digester_tkn}
 use Rattle.vectors.specs.Units.{milligrams}
 use Rattle.vectors.proofs.Laws.Columns.{within-column, within-below, below-within, digester-columns}
 use Rattle.plant.specs.declared.record.Plant.{Plant}
-use Rattle.plant.specs.Record.{record_within}
+use Rattle.plant.specs.Record.{record_refusal}
 use Rattle.refusals.specs.declared.Refusal.{Refusal}
-use Rattle.refusals.specs.declared.Refusal.TheVariants.{RecordAbove, ColumnAbove, CodOpen, TknOpen}
-use Rattle.refusals.specs.Tests.{unless, first, decide}
+use Rattle.refusals.specs.declared.Refusal.TheVariants.{ColumnAbove, CodOpen, TknOpen}
+use Rattle.refusals.specs.Tests.{first, decide}
 use Rattle.std.specs.Prelude.{Option, None, Some, Result, Ok, Err}
 use Rattle.plant.specs.Calls.{refusal_for, settling}
 use Rattle.plant.proofs.Laws.Calls.{SettlePassed, settle-passed, settle-passes}
-use Rattle.plant.proofs.Laws.Record.{digester-within}
+use Rattle.plant.proofs.Laws.Record.{usable-within, digester-within}
+use Rattle.plant.proofs.Laws.Decision.{passed-by, passed}
 use Rattle.closing.specs.declared.Closed.{Closed}
 use Rattle.closing.specs.declared.Gaps.{Gaps}
 use Rattle.closing.specs.Closing.{replaced, SameBut, other_tkn, closing_sin, closing_gas, closed_vector}
@@ -36,7 +37,8 @@ use Rattle.closing.specs.Closing.{Closes, CloseLaw, NoneLaw, OnlyLaw, GapLaw}
 
 -- ---- vectors
 
-replaced-within : (d : List ℕ) (sin co cn : ℕ) → within digester_ceilings d ≡ true → sin ≤ tick_ceiling → co ≤ cod_ceiling → cn ≤ tick_ceiling
+replaced-within : (d : List ℕ) (sin co cn : ℕ) → within digester_ceilings d ≡ true → sin ≤ tick_ceiling → co ≤ cod_ceiling
+    → cn ≤ tick_ceiling
     → within digester_ceilings (replaced d sin co cn) ≡ true
 replaced-within d sin co cn h a b c =
     let l = within-below digester_ceilings d h in
@@ -57,104 +59,99 @@ same-other f e d s =
 
 -- ---- gap and close by their refusals
 
--- a test that gives nothing has passed
-unless-passed : (b : Bool) (r : Refusal) (rs : List (Option Refusal)) → first (unless b r ∷ rs) ≡ None → (b ≡ true) × (first rs ≡ None)
-unless-passed true r rs e = (refl, e)
-unless-passed false r rs e = absurd cc
-
 -- what is decided as x
 decided : {A : Type 0} (o : Option Refusal) {x y : A} → decide o x ≡ Ok y → (o ≡ None) × (x ≡ y)
 decided None e = (refl, cc)
 decided (Some r) e = absurd cc
 
-module _ (f : Figures) (p : Plant) (d : List ℕ) where
-  pub gap_is : record_within p ≡ true → within digester_ceilings d ≡ true → Ok (gap_between f p.digester d) ≡ gap_of f p d
+module _ (p : Plant) (d : List ℕ) where
+  pub gap_is : record_refusal p ≡ None → within digester_ceilings d ≡ true → Ok (gap_between p.figures p.digester d) ≡ gap_of p d
   unfolding gap_of
   gap_is h k = rw (h, k)
 
-  pub gap-passed : (g : Gaps) → gap_of f p d ≡ Ok g → (record_within p ≡ true) × (within digester_ceilings d ≡ true)
+  pub gap-passed : (g : Gaps) → gap_of p d ≡ Ok g → (record_refusal p ≡ None) × (within digester_ceilings d ≡ true)
   unfolding gap_of
   gap-passed g e =
-      let at_1 = unless-passed (record_within p) RecordAbove _ (decided (first (gap_tests p d)) e).0 in
-      (at_1.0, (unless-passed (within digester_ceilings d) ColumnAbove _ at_1.1).0)
+      let at-record = passed-by (record_refusal p) _ (decided (first (gap_tests p d)) e).0 in
+      (at-record.0, (passed (within digester_ceilings d) ColumnAbove _ at-record.1).0)
 
   -- by the gap
-  pub close_as : (g : Result Gaps Refusal) → g ≡ gap_of f p d → close_by g (close_taken f p.digester d) ≡ close_of f p d
+  pub close_as : (g : Result Gaps Refusal) → g ≡ gap_of p d → close_by g (close_taken p.figures p.digester d) ≡ close_of p d
   unfolding close_of
-  close_as g e = ap (λ (h : Result Gaps Refusal). close_by h (close_taken f p.digester d)) e
+  close_as g e = ap (λ (h : Result Gaps Refusal). close_by h (close_taken p.figures p.digester d)) e
 
   -- no test of close applies where there is no gap
-  pub closed_is : gap_of f p d ≡ Ok no_gap → close_of f p d ≡ Ok (close_taken f p.digester d)
+  pub closed_is : gap_of p d ≡ Ok no_gap → close_of p d ≡ Ok (close_taken p.figures p.digester d)
   closed_is e = sym (close_as (Ok no_gap) (sym e))
 
-  close-passed : (c : Closed) → close_of f p d ≡ Ok c → (gap_of f p d ≡ Ok no_gap) × (close_taken f p.digester d ≡ c)
+  close-passed : (c : Closed) → close_of p d ≡ Ok c → (gap_of p d ≡ Ok no_gap) × (close_taken p.figures p.digester d ≡ c)
   unfolding close_of
-  close-passed c = go (gap_of f p d)
+  close-passed c = go (gap_of p d)
     where
-      go : (g : Result Gaps Refusal) → close_by g (close_taken f p.digester d) ≡ Ok c
-          → (g ≡ Ok no_gap) × (close_taken f p.digester d ≡ c)
+      go : (g : Result Gaps Refusal) → close_by g (close_taken p.figures p.digester d) ≡ Ok c
+          → (g ≡ Ok no_gap) × (close_taken p.figures p.digester d ≡ c)
       go (Err r) e = absurd cc
       go (Ok g) e =
           let q = decided (first (close_tests g)) e in
-          let at-3 = unless-passed (eqb g.sin.0 0) ColumnAbove _ q.0 in
-          let at_7 = unless-passed (eqb g.cod.0 0) CodOpen _ at-3.1 in
-          let sin = eqb-true _ _ at-3.0 in
-          let cod = eqb-true _ _ at_7.0 in
-          let tkn = eqb-true _ _ (unless-passed (eqb g.tkn.0 0) TknOpen _ at_7.1).0 in
+          let at-sin = passed (eqb g.sin.0 0) ColumnAbove _ q.0 in
+          let at-cod = passed (eqb g.cod.0 0) CodOpen _ at-sin.1 in
+          let sin = eqb-true _ _ at-sin.0 in
+          let cod = eqb-true _ _ at-cod.0 in
+          let tkn = eqb-true _ _ (passed (eqb g.tkn.0 0) TknOpen _ at-cod.1).0 in
           (λ i. Ok (gaps (cod i) (tkn i) (sin i)), q.1)
 
 -- ---- no gap, as inequalities
 
-record Fitting (f : Figures) (p : Plant) (d : List ℕ) : Type 0 where
-  held : record_within p ≡ true
+record Fitting (p : Plant) (d : List ℕ) : Type 0 where
+  held : record_refusal p ≡ None
   proposed : within digester_ceilings d ≡ true
-  sin : closing_sin f p.digester d ≤ tick_ceiling
+  sin : closing_sin p.figures p.digester d ≤ tick_ceiling
   cod : digester_cod d ≤ digester_cod p.digester
-  tkn : other_tkn f d ≤ digester_tkn f p.digester
+  tkn : other_tkn p.figures d ≤ digester_tkn p.figures p.digester
 
-fitting : (f : Figures) (p : Plant) (d : List ℕ) → gap_of f p d ≡ Ok no_gap → Fitting f p d
+fitting : (p : Plant) (d : List ℕ) → gap_of p d ≡ Ok no_gap → Fitting p d
 unfolding gap_between
-fitting f p d e =
-    let passed = gap-passed f p d no_gap e in
-    let q : ◌≡◌ {A = Result Gaps Refusal} (Ok (gap_between f p.digester d)) (Ok no_gap) = gap_is f p d passed.0 passed.1 ∙ e in
-    let g : gap_between f p.digester d ≡ no_gap = cc in
+fitting p d e =
+    let at-gap = gap-passed p d no_gap e in
+    let q : ◌≡◌ {A = Result Gaps Refusal} (Ok (gap_between p.figures p.digester d)) (Ok no_gap) = gap_is p d at-gap.0 at-gap.1 ∙ e in
+    let g : gap_between p.figures p.digester d ≡ no_gap = cc in
     record {
-      held = passed.0;
-      proposed = passed.1;
+      held = at-gap.0;
+      proposed = at-gap.1;
       sin = omega (arith, ap (λ (x : Gaps). x.sin.0) g);
       cod = omega (arith, ap (λ (x : Gaps). x.cod.0) g);
       tkn = omega (arith, ap (λ (x : Gaps). x.tkn.0) g);
     }
 
-fits : (f : Figures) (p : Plant) (d : List ℕ) → Fitting f p d → gap_of f p d ≡ Ok no_gap
+fits : (p : Plant) (d : List ℕ) → Fitting p d → gap_of p d ≡ Ok no_gap
 unfolding gap_between
-fits f p d t =
+fits p d t =
     let cod : digester_cod d - digester_cod p.digester ≡ 0 = omega (arith, t.cod) in
-    let tkn : other_tkn f d - digester_tkn f p.digester ≡ 0 = omega (arith, t.tkn) in
-    let sin : closing_sin f p.digester d - tick_ceiling ≡ 0 = omega (arith, t.sin) in
-    sym (gap_is f p d t.held t.proposed) ∙ (λ i. Ok (gaps (cod i) (tkn i) (sin i)))
+    let tkn : other_tkn p.figures d - digester_tkn p.figures p.digester ≡ 0 = omega (arith, t.tkn) in
+    let sin : closing_sin p.figures p.digester d - tick_ceiling ≡ 0 = omega (arith, t.sin) in
+    sym (gap_is p d t.held t.proposed) ∙ (λ i. Ok (gaps (cod i) (tkn i) (sin i)))
 
 -- ---- the laws
 
 pub gap-law : GapLaw
-gap-law f p d = record { none = λ c e. (close-passed f p d c e).0; closes = closed_is f p d }
+gap-law p d = record { none = λ c e. (close-passed p d c e).0; closes = closed_is p d }
 
 -- settle's tests on what closes
-settles : (f : Figures) (p : Plant) (d : List ℕ) → Fitting f p d
-    → refusal_for f p (settling (milligrams (closing_gas p.digester d)) (closed_vector f p.digester d)) ≡ 0
-settles f p d t =
+settles : (p : Plant) (d : List ℕ) → Fitting p d
+    → refusal_for p (settling (milligrams (closing_gas p.digester d)) (closed_vector p.figures p.digester d)) ≡ 0
+settles p d t =
     let old = p.digester in
-    let b = within-below digester_ceilings old (digester-within p t.held) in
-    let v = closed_vector f old d in
+    let b = within-below digester_ceilings old (digester-within p (usable-within p t.held)) in
+    let v = closed_vector p.figures old d in
     let fitted : within digester_ceilings v ≡ true = replaced-within d _ _ _ t.proposed t.sin (omega arith) (omega arith) in
     let cod : digester_cod old ≡ digester_cod v + closing_gas old d = omega (arith, t.cod) in
-    let tkn : digester_tkn f old ≡ digester_tkn f v = omega (arith, t.tkn) in
-    settle-passes f p _ v (record { held = t.held; proposed = fitted; cod = cod; tkn = tkn; oxygen = refl; nitrate = refl })
+    let tkn : digester_tkn p.figures old ≡ digester_tkn p.figures v = omega (arith, t.tkn) in
+    settle-passes p _ v (record { held = t.held; proposed = fitted; cod = cod; tkn = tkn; oxygen = refl; nitrate = refl })
 
 pub close-law : CloseLaw
-close-law f p d c e =
-    let q = close-passed f p d c e in
-    subst (Closes f p d) q.1 (record { settles = settles f p d (fitting f p d q.0); keeps = refl })
+close-law p d c e =
+    let q = close-passed p d c e in
+    subst (Closes p d) q.1 (record { settles = settles p d (fitting p d q.0); keeps = refl })
 
 -- COD and TKN that close leave no gap
 by-gas : {old new new' : ℕ} (gas : ℕ) → new ≡ new' → old ≡ new + gas → new' ≤ old
@@ -167,33 +164,33 @@ left_over : {old new new' rest : ℕ} → new ≡ new' → old ≡ new + rest �
 left_over e h = omega arith
 
 -- what settle accepts, close has no gap for
-settled-fits : (f : Figures) (p : Plant) (d : List ℕ) → within digester_ceilings d ≡ true → (gas : Milligrams) (e : List ℕ) → SameBut e d
-    → SettlePassed f p gas e → Fitting f p d
-settled-fits f p d h gas e same s =
+settled-fits : (p : Plant) (d : List ℕ) → within digester_ceilings d ≡ true → (gas : Milligrams) (e : List ℕ) → SameBut e d
+    → SettlePassed p gas e → Fitting p d
+settled-fits p d h gas e same s =
     let low : (digester e).sin ≤ tick_ceiling = within-column digester_ceilings e 22 s.proposed in
     record {
       held = s.held;
       proposed = h;
-      sin = (by-other _ (same-other f e d same) (s.tkn ∙ other-tkn f e) low).0;
+      sin = (by-other _ (same-other p.figures e d same) (s.tkn ∙ other-tkn p.figures e) low).0;
       cod = by-gas gas.0 (same-cod e d same) s.cod;
-      tkn = (by-other _ (same-other f e d same) (s.tkn ∙ other-tkn f e) low).1;
+      tkn = (by-other _ (same-other p.figures e d same) (s.tkn ∙ other-tkn p.figures e) low).1;
     }
 
 pub none-law : NoneLaw
-none-law f p d held h r refused gas e same n =
-    let q : close_of f p d ≡ Ok (close_taken f p.digester d) =
-    closed_is f p d (fits f p d (settled-fits f p d h gas e same (settle-passed f p gas e n))) in
-    absurd (let w : ◌≡◌ {A = Result Closed Refusal} (Err r) (Ok (close_taken f p.digester d)) = sym refused ∙ q in cc)
+none-law p d held h r refused gas e same n =
+    let q : close_of p d ≡ Ok (close_taken p.figures p.digester d) =
+    closed_is p d (fits p d (settled-fits p d h gas e same (settle-passed p gas e n))) in
+    absurd (let w : ◌≡◌ {A = Result Closed Refusal} (Err r) (Ok (close_taken p.figures p.digester d)) = sym refused ∙ q in cc)
 
 pub only-law : OnlyLaw
-only-law f p d h gas e long same n =
-    let s = settle-passed f p gas e n in
-    let t = settled-fits f p d h gas e same s in
+only-law p d h gas e long same n =
+    let s = settle-passed p gas e n in
+    let t = settled-fits p d h gas e same s in
     let old = p.digester in
     let gone : closing_gas old d ≡ gas.0 = left_over (same-cod e d same) s.cod in
-    let sin : closing_sin f old d ≡ (digester e).sin = left_over (same-other f e d same) (s.tkn ∙ other-tkn f e) in
+    let sin : closing_sin p.figures old d ≡ (digester e).sin = left_over (same-other p.figures e d same) (s.tkn ∙ other-tkn p.figures e) in
     let is : replaced d (digester e).sin (digester e).co (digester e).cn ≡ e =
     ap (λ (l : List ℕ). replaced l (digester e).sin (digester e).co (digester e).cn) (sym same) ∙ digester-columns e long
     in
-    let v : closed_vector f old d ≡ e = (λ i. replaced d (sin i) (s.oxygen i) (s.nitrate i)) ∙ is in
-    closed_is f p d (fits f p d t) ∙ (λ i. Ok (record { gas = milligrams (gone i); vector = v i }))
+    let v : closed_vector p.figures old d ≡ e = (λ i. replaced d (sin i) (s.oxygen i) (s.nitrate i)) ∙ is in
+    closed_is p d (fits p d t) ∙ (λ i. Ok (record { gas = milligrams (gone i); vector = v i }))

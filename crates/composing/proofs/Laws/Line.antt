@@ -20,7 +20,6 @@ use lib.Seq.{take_at, drop_at, ext_get_or}
 use Rattle.vectors.specs.Columns.{asm1, asm1_columns}
 use Rattle.vectors.specs.Units.{milligrams}
 use Rattle.vectors.proofs.Laws.Columns.{both_true}
-use Rattle.vectors.specs.declared.figures.Figures.{Figures}
 use Rattle.refusals.specs.declared.Refusal.TheVariants.{ShortBuffer}
 use Rattle.plant.specs.declared.record.Plant.{Plant}
 use Rattle.plant.specs.declared.answer.Call.{Call}
@@ -36,7 +35,8 @@ use Rattle.reading.specs.Text.{ascii, same_bytes, look_up, up_to, behind, one_li
 use Rattle.reading.specs.Number.{largest, decimal, read_number}
 use Rattle.reading.specs.Names.{names_of}
 use Rattle.reading.specs.Form.{line_of, read_fields, receive_line, settle_line, number_line, settle_part, settle_by, form_of, form_by}
-use Rattle.reading.specs.Line.{inner, call_by, is_preview, form_in, preview_line, read_line, bracketed, preview_text, form_passes, call_passes}
+use Rattle.reading.specs.Line.{inner, call_by, is_preview, form_in, preview_line, read_line, bracketed, preview_text, form_passes}
+use Rattle.reading.specs.Line.{call_passes}
 use Rattle.reading.proofs.Laws.Line.{call-form, preview-word, line-call, brackets-around, form-around, preview-around, preview-form-law}
 use Rattle.writing.specs.Answer.{labelled, column_text, column_or_none, columns_from}
 use Rattle.writing.proofs.Laws.Decimal.{decimal-length}
@@ -194,7 +194,8 @@ settle_read g d l h =
     let start = fields-start 0 (names_of Digester) d in
     let filled = fields_read (names_of Digester) plain-digester d (omega (arith, h.0)) h.1 in
     let f = read_fields (names_of Digester) x in
-    ap₂ (λ (a b : List ℕ). settle_line (read_number a) (read_fields (names_of Digester) b)) (settle-number g x start) (settle-rest g x start)
+    ap₂ (λ (a b : List ℕ). settle_line (read_number a) (read_fields (names_of Digester) b)) (settle-number g x start)
+    (settle-rest g x start)
     ∙ ap (λ n. settle_line n f) (decimal-read g l)
     ∙ ap (settle_line (Some g)) filled.read
     ∙ ap (λ (w : List ℕ). line_of (Settle (milligrams g)) false (replicate 13 0) w) (digester-is d filled.fields h.0 filled.holds)
@@ -236,29 +237,29 @@ entry-read false r h = call-read r.call r.sludge r.digester h.number h.sludge h.
 -- ---- what the line gives
 
 -- a call, or its preview, by what its step gives
-entry-same : (f : Figures) (p : Plant) (b : Bool) (r s : Request) → step f p r ≡ step f p s
-    → outcome_by f p b r ≡ outcome_by f p b s
+entry-same : (p : Plant) (b : Bool) (r s : Request) → step p r ≡ step p s
+    → outcome_by p b r ≡ outcome_by p b s
 unfolding preview_of
-entry-same f p true r s e = ap (λ (o : Outcome). record { answer = o.answer; vector = o.vector; plant = p }) e
-entry-same f p false r s e = e
+entry-same p true r s e = ap (λ (o : Outcome). record { answer = o.answer; vector = o.vector; plant = p }) e
+entry-same p false r s e = e
 
 -- no call looks at the vector that it does not take
-asked-gives : (f : Figures) (p : Plant) (b : Bool) (call : Call) (v d : List ℕ)
-    → form_outcome f p (asked_by b call v d) ≡ outcome_by f p b (record { call = call; sludge = v; digester = d })
+asked-gives : (p : Plant) (b : Bool) (call : Call) (v d : List ℕ)
+    → form_outcome p (asked_by b call v d) ≡ outcome_by p b (record { call = call; sludge = v; digester = d })
 unfolding step_by
-asked-gives f p b Receive v d = entry-same f p b (receiving v) _ refl
-asked-gives f p b (Feed k) v d = entry-same f p b (request (Feed k)) _ refl
-asked-gives f p b (Settle g) v d = entry-same f p b (settling g d) _ refl
-asked-gives f p b (Return k) v d = entry-same f p b (request (Return k)) _ refl
-asked-gives f p b (Release k) v d = entry-same f p b (request (Release k)) _ refl
-asked-gives f p b (Recycle k) v d = entry-same f p b (request (Recycle k)) _ refl
+asked-gives p b Receive v d = entry-same p b (receiving v) _ refl
+asked-gives p b (Feed k) v d = entry-same p b (request (Feed k)) _ refl
+asked-gives p b (Settle g) v d = entry-same p b (settling g d) _ refl
+asked-gives p b (Return k) v d = entry-same p b (request (Return k)) _ refl
+asked-gives p b (Release k) v d = entry-same p b (request (Release k)) _ refl
+asked-gives p b (Recycle k) v d = entry-same p b (request (Recycle k)) _ refl
 
 pub entry-gives : TextGivesLaw
 unfolding line_outcome
-entry-gives f m p b r h l =
-    ap (λ (t : Bool). cond t (refused p ShortBuffer) (form_outcome f p (read_line (entry_text b r)))) (le-ltb m 512 l)
-    ∙ ap (form_outcome f p) (entry-read b r h)
-    ∙ asked-gives f p b r.call r.sludge r.digester
+entry-gives m p b r h l =
+    ap (λ (t : Bool). cond t (refused p ShortBuffer) (form_outcome p (read_line (entry_text b r)))) (le-ltb m 512 l)
+    ∙ ap (form_outcome p) (entry-read b r h)
+    ∙ asked-gives p b r.call r.sludge r.digester
 
 -- ---- no zero column is named
 

@@ -10,7 +10,6 @@ use native.Mathlib.Nat.{zero-add, add-zero, add-suc, suc-add}
 use native.Mathlib.Omega.{arith}
 use lib.Ieee.{Float, nan, of_bits, binary32}
 use lib.ListN.{length, get_or}
-use Rattle.vectors.specs.declared.figures.Figures.{Figures}
 use Rattle.plant.specs.declared.record.Plant.{Plant}
 use Rattle.sheets.specs.declared.finding.Finding.{Finding}
 use Rattle.sheets.specs.declared.call.SheetOutcome.{SheetOutcome}
@@ -47,11 +46,11 @@ sheet-column j ks xs z h =
 
 -- ---- the call
 
-pub sheet-called : {f : Figures} {cs es ts : List ℕ} {p : Plant} {s t : List (Finding Float)} {o : SheetOutcome} {n : ℕ}
-    → p ≡ plant_at cs → t ≡ s → o ≡ sheet_step f p t → es ≡ columns_at o.plant → n ≡ number_in o.told → ts ≡ unseen_of o.told
-    → SheetCalled f cs s n es ts
-sheet-called {f} {cs} {es} {ts} {p} {s} {t} at q e c r u =
-    let w = e ∙ ap (λ (x : Plant). sheet_step f x t) at ∙ ap (sheet_step f (plant_at cs)) q in
+pub sheet-called : {cs es ts : List ℕ} {p : Plant} {s t : List (Finding Float)} {o : SheetOutcome} {n : ℕ}
+    → p ≡ plant_at cs → t ≡ s → o ≡ sheet_step p t → es ≡ columns_at o.plant → n ≡ number_in o.told → ts ≡ unseen_of o.told
+    → SheetCalled cs s n es ts
+sheet-called {cs} {es} {ts} {p} {s} {t} at q e c r u =
+    let w = e ∙ ap (λ (x : Plant). sheet_step x t) at ∙ ap (sheet_step (plant_at cs)) q in
     record {
       columns = c ∙ ap (λ (x : SheetOutcome). columns_at x.plant) w;
       refusal = r ∙ ap (λ (x : SheetOutcome). number_in x.told) w;

@@ -20,7 +20,6 @@ use Rattle.std.proofs.lemmas.List.{take_rest}
 use lib.ListN.{length, take, drop, length-drop, drop_of_length-le}
 use lib.Seq.{drop-drop, length-take-le}
 use borrow.Author.Tests.{lt-ltb, le-ltb, le-leb, eq-eqb, leb-true, eqb-true, ltb-true}
-use Rattle.vectors.specs.declared.figures.Figures.{Figures}
 use Rattle.vectors.proofs.Laws.Columns.{both_true}
 use Rattle.plant.specs.declared.record.Plant.{Plant}
 use Rattle.plant.specs.declared.answer.Outcome.{Outcome}
@@ -33,7 +32,8 @@ use Rattle.writing.specs.Buffer.{put_at, Put, Answered}
 use Rattle.writing.specs.Answer.{held_text, fitting}
 use Rattle.lines.specs.Asking.{outcome_text, line_text, LineAnswered, HeldAnswered}
 use Rattle.lines.specs.Session.{last_line, given_by, answer_of, after_line, answers, after_lines, held_line_text, transcript}
-use Rattle.lines.specs.Blocks.{Desk, desk, place_at, fits, room_for, desk_fits, ready, room, gathered, answered_desk, ended, through, line_in, step_of}
+use Rattle.lines.specs.Blocks.{Desk, desk, place_at, fits, room_for, desk_fits, ready, room, gathered, answered_desk, ended, through}
+use Rattle.lines.specs.Blocks.{line_in, step_of}
 use Rattle.lines.specs.Blocks.{ended_desk, end_of}
 use Rattle.reading.proofs.Laws.Text.{up_to-take}
 use Rattle.writing.proofs.Laws.Buffer.{put_then, put_same, put-nothing}
@@ -57,7 +57,8 @@ part-put d at {s} {r} {e} a =
 
 -- the text s of r bytes, written into the part of d from `at` on, and its newline
 module _ (s : List ℕ) (d : List ℕ) (at : ℕ) {r k : ℕ} {e g : List ℕ} where
-  text-gathered : at + 513 ≤ length d → Answered (take (length d - at) (drop at d)) (fitting (length (take (length d - at) (drop at d))) s) r e
+  text-gathered : at + 513 ≤ length d
+      → Answered (take (length d - at) (drop at d)) (fitting (length (take (length d - at) (drop at d))) s) r e
       → Put (rejoined d at e) (at + r) (newline ∷ []) k g → Put d at (s ++ (newline ∷ [])) k g × (k ≤ at + 513)
   text-gathered h a q =
       let b = subst (λ (x : List ℕ). Answered x (fitting (length x) s) r e) (take_rest d at) a in
@@ -65,24 +66,25 @@ module _ (s : List ℕ) (d : List ℕ) (at : ℕ) {r k : ℕ} {e g : List ℕ} w
       let t = subst (λ (x : List ℕ). Answered (drop at d) x r e) (fitting-all (length (drop at d)) s m) b in
       (put_then (part-put d at t) q (omega (arith, q.next, t.within)), omega (arith, q.next, t.within))
 
-module _ {f : Figures} {p : Plant} {l : List ℕ} (d : List ℕ) (at : ℕ) {r : LineOutcome} {e : List ℕ} where
-  given : at + 513 ≤ length d → LineAnswered f p l (take (length d - at) (drop at d)) r e → r.outcome ≡ given_by f p l
+module _ {p : Plant} {l : List ℕ} (d : List ℕ) (at : ℕ) {r : LineOutcome} {e : List ℕ} where
+  given : at + 513 ≤ length d → LineAnswered p l (take (length d - at) (drop at d)) r e → r.outcome ≡ given_by p l
   unfolding given_by
   given h a =
       let few = take (length d - at) (drop at d) in
-      a.outcome ∙ outcome-full f (length few) p l (omega (arith, ap length (take_rest d at), length-drop at d))
+      a.outcome ∙ outcome-full (length few) p l (omega (arith, ap length (take_rest d at), length-drop at d))
 
-  pub answer-gathered : {k : ℕ} {g : List ℕ} → at + 513 ≤ length d → LineAnswered f p l (take (length d - at) (drop at d)) r e
-      → Put (rejoined d at e) (at + r.length) (newline ∷ []) k g → ((r.outcome.plant ≡ after_line f p l) × Put d at (answer_of f p l) k g) × (k ≤ at + 513)
+  pub answer-gathered : {k : ℕ} {g : List ℕ} → at + 513 ≤ length d → LineAnswered p l (take (length d - at) (drop at d)) r e
+      → Put (rejoined d at e) (at + r.length) (newline ∷ []) k g
+      → ((r.outcome.plant ≡ after_line p l) × Put d at (answer_of p l) k g) × (k ≤ at + 513)
   unfolding given_by line_text
   answer-gathered h a q =
-      let t = text-gathered (outcome_text (given_by f p l)) d at h a.text q in
+      let t = text-gathered (outcome_text (given_by p l)) d at h a.text q in
       ((ap (λ (o : Outcome). o.plant) (given h a), t.0), t.1)
 
-pub held-gathered : {f : Figures} {p : Plant} (d : List ℕ) (at : ℕ) {r : HeldOutcome} {e : List ℕ} {k : ℕ} {g : List ℕ}
-    → at + 513 ≤ length d → HeldAnswered f p (take (length d - at) (drop at d)) r e
-    → Put (rejoined d at e) (at + r.length) (newline ∷ []) k g → Put d at (held_line_text f p) k g × (k ≤ at + 513)
-held-gathered {f} {p} d at h a q = text-gathered (held_text (held_of f p)) d at h a.text q
+pub held-gathered : {p : Plant} (d : List ℕ) (at : ℕ) {r : HeldOutcome} {e : List ℕ} {k : ℕ} {g : List ℕ}
+    → at + 513 ≤ length d → HeldAnswered p (take (length d - at) (drop at d)) r e
+    → Put (rejoined d at e) (at + r.length) (newline ∷ []) k g → Put d at (held_line_text p) k g × (k ≤ at + 513)
+held-gathered {p} d at h a q = text-gathered (held_text (held_of p)) d at h a.text q
 
 -- ---- a step where all fits
 
@@ -92,9 +94,9 @@ part-line s a e h =
     ap (λ (k : ℕ). take k (drop a s)) n ∙ up_to-take newline (drop a s)
 
 -- a line is answered: the place, the line's buffer and the answers
-answered-desk : (f : Figures) (p : Place) (line out l : List ℕ) {q : Plant} {at : ℕ} {out2 : List ℕ} (e : ℕ) → q ≡ after_line f p.plant l
-    → Put out p.at (answer_of f p.plant l) at out2 → desk (place_at e 0 at q) line out2 ≡ answered_desk f p line out l e
-answered-desk f p line out l e r o = λ i. record {
+answered-desk : (p : Place) (line out l : List ℕ) {q : Plant} {at : ℕ} {out2 : List ℕ} (e : ℕ) → q ≡ after_line p.plant l
+    → Put out p.at (answer_of p.plant l) at out2 → desk (place_at e 0 at q) line out2 ≡ answered_desk p line out l e
+answered-desk p line out l e r o = λ i. record {
   place = record { used = e; held = 0; at = o.next i; plant = r i };
   line = line;
   out = o.bytes i;
@@ -109,20 +111,23 @@ gathered-desk p line out s t k = λ i. record {
   out = out;
 }
 
-module _ (f : Figures) (block line out s : List ℕ) (p : Place) {e h : ℕ} {line2 : List ℕ} (t : e ≡ p.used + length s) (k : Put line p.held (room p.held s) h line2) where
-  pub through-end : length block ≤ e → desk (place_at e h p.at p.plant) line2 out ≡ through f block (desk p line out) s (p.used + length s)
+module _ (block line out s : List ℕ) (p : Place) {e h : ℕ} {line2 : List ℕ} (t : e ≡ p.used + length s)
+    (k : Put line p.held (room p.held s) h line2) where
+  pub through-end : length block ≤ e → desk (place_at e h p.at p.plant) line2 out ≡ through block (desk p line out) s (p.used + length s)
   through-end n =
       gathered-desk p line out s t k
-      ∙ sym (ap (λ b. cond b (ended f (gathered p line out s (p.used + length s))) (gathered p line out s (p.used + length s))) (le-ltb (p.used + length s) (length block) (omega (arith, t))))
+      ∙ sym (ap (λ b. cond b (ended (gathered p line out s (p.used + length s))) (gathered p line out s (p.used + length s)))
+      (le-ltb (p.used + length s) (length block) (omega (arith, t))))
 
   pub through-newline : {g : Place} {out2 : List ℕ} → e < length block → g ≡ place_at p.used 0 g.at g.plant
-      → (g.plant ≡ after_line f p.plant (take h line2)) × Put out p.at (answer_of f p.plant (take h line2)) g.at out2
-      → desk (place_at (e + 1) g.held g.at g.plant) line2 out2 ≡ through f block (desk p line out) s (p.used + length s)
+      → (g.plant ≡ after_line p.plant (take h line2)) × Put out p.at (answer_of p.plant (take h line2)) g.at out2
+      → desk (place_at (e + 1) g.held g.at g.plant) line2 out2 ≡ through block (desk p line out) s (p.used + length s)
   through-newline {g} {out2} n i w =
       ap (λ (x : Place). desk (place_at (e + 1) x.held g.at g.plant) line2 out2) i
-      ∙ answered-desk f p line2 out (take h line2) (e + 1) w.0 w.1
-      ∙ ap (ended f) (gathered-desk p line out s t k)
-      ∙ sym (ap (λ b. cond b (ended f (gathered p line out s (p.used + length s))) (gathered p line out s (p.used + length s))) (lt-ltb (p.used + length s) (length block) (omega (arith, t))))
+      ∙ answered-desk p line2 out (take h line2) (e + 1) w.0 w.1
+      ∙ ap ended (gathered-desk p line out s t k)
+      ∙ sym (ap (λ b. cond b (ended (gathered p line out s (p.used + length s))) (gathered p line out s (p.used + length s)))
+      (lt-ltb (p.used + length s) (length block) (omega (arith, t))))
 
 -- ---- any step
 
@@ -143,45 +148,52 @@ ready-true block k e =
     let t = room-true 513 k b.1 in
     (ltb-true k.place.used (length block) b.0, t.0, t.1, t.2)
 
-pub ready_of : (block : List ℕ) (k : Desk) → k.place.used < length block → k.place.held ≤ 1025 → length k.line ≡ 1025 → k.place.at + 513 ≤ length k.out → ready block k ≡ true
+pub ready_of : (block : List ℕ) (k : Desk) → k.place.used < length block → k.place.held ≤ 1025 → length k.line ≡ 1025
+    → k.place.at + 513 ≤ length k.out → ready block k ≡ true
 unfolding fits
 ready_of block k u h l o =
-    simp (lt-ltb k.place.used (length block) u, le-leb k.place.held 1025 h, eq-eqb (length k.line) 1025 l, le-leb (k.place.at + 513) (length k.out) o)
+    simp (
+      lt-ltb k.place.used (length block) u,
+      le-leb k.place.held 1025 h,
+      eq-eqb (length k.line) 1025 l,
+      le-leb (k.place.at + 513)
+          (length k.out) o,
+    )
 
-module _ (f : Figures) (block : List ℕ) (k : Desk) where
+module _ (block : List ℕ) (k : Desk) where
   abbrev goes : Desk
-  goes = through f block k (line_in block k.place.used) (k.place.used + length (line_in block k.place.used))
+  goes = through block k (line_in block k.place.used) (k.place.used + length (line_in block k.place.used))
 
-  pub step-still : ready block k ≡ false → k ≡ step_of f block k
+  pub step-still : ready block k ≡ false → k ≡ step_of block k
   unfolding step_of
   step-still h = sym (ap (λ b. cond b goes k) h)
 
-  pub step-goes : ready block k ≡ true → goes ≡ step_of f block k
+  pub step-goes : ready block k ≡ true → goes ≡ step_of block k
   unfolding step_of
   step-goes h = sym (ap (λ b. cond b goes k) h)
 
 -- ---- behind the last byte
 
-module _ (f : Figures) (p : Plant) (line out : List ℕ) (at : ℕ) where
+module _ (p : Plant) (line out : List ℕ) (at : ℕ) where
   -- what is left of a line of so many held bytes leaves the record q, and is put up to the place k
   abbrev Left : ℕ → Plant → ℕ → List ℕ → Type 0
-  Left held q k out2 = (q ≡ after_lines f p (last_line (take held line))) × Put out at (answers f p (last_line (take held line))) k out2
+  Left held q k out2 = (q ≡ after_lines p (last_line (take held line))) × Put out at (answers p (last_line (take held line))) k out2
 
   pub last_none : (held : ℕ) → held ≡ 0 → Left held p at out
   unfolding answers after_lines
   last_none held h = rw h (refl, put-nothing out at)
 
   pub last_some : (held : ℕ) (q : Plant) {k : ℕ} {out2 : List ℕ} → (held ≡ 0 → ⊥) → held ≤ length line
-      → (q ≡ after_line f p (take held line)) × Put out at (answer_of f p (take held line)) k out2 → Left held q k out2
+      → (q ≡ after_line p (take held line)) × Put out at (answer_of p (take held line)) k out2 → Left held q k out2
   unfolding answers after_lines
   last_some held q {k} {out2} n l t = go (take held line) (omega (arith, n, length-take-le held line l)) t
     where
-      go : (h : List ℕ) → 0 < length h → (q ≡ after_line f p h) × Put out at (answer_of f p h) k out2
-          → (q ≡ after_lines f p (last_line h)) × Put out at (answers f p (last_line h)) k out2
+      go : (h : List ℕ) → 0 < length h → (q ≡ after_line p h) × Put out at (answer_of p h) k out2
+          → (q ≡ after_lines p (last_line h)) × Put out at (answers p (last_line h)) k out2
       go [] z t = absurd (omega arith)
-      go (b ∷ h) z t = (t.0, put_same (sym (append-nil (answer_of f p (b ∷ h)))) t.1)
+      go (b ∷ h) z t = (t.0, put_same (sym (append-nil (answer_of p (b ∷ h)))) t.1)
 
-module _ (f : Figures) (p : Place) (line out : List ℕ) where
+module _ (p : Place) (line out : List ℕ) where
   abbrev k : Desk
   k = desk p line out
 
@@ -189,23 +201,23 @@ module _ (f : Figures) (p : Place) (line out : List ℕ) where
   l = last_line (take p.held line)
 
   abbrev answered : Desk
-  answered = ended_desk k (transcript f p.plant l) (after_lines f p.plant l)
+  answered = ended_desk k (transcript p.plant l) (after_lines p.plant l)
 
-  pub end-unfit : room_for 1026 k ≡ false → k ≡ end_of f k
+  pub end-unfit : room_for 1026 k ≡ false → k ≡ end_of k
   unfolding end_of
   end-unfit h = sym (ap (λ b. cond b answered k) h)
 
   -- the last line's answer is put, and the held line behind it: the places g and h
   pub end-ready : {g h : Place} {out2 out3 : List ℕ} → room_for 1026 k ≡ true → h ≡ place_at g.used g.held h.at g.plant
-      → g ≡ place_at p.used 0 g.at g.plant → (g.plant ≡ after_lines f p.plant l) × Put out p.at (answers f p.plant l) g.at out2
-      → Put out2 g.at (held_line_text f g.plant) h.at out3 → h.at ≤ length out → desk h line out3 ≡ end_of f k
+      → g ≡ place_at p.used 0 g.at g.plant → (g.plant ≡ after_lines p.plant l) × Put out p.at (answers p.plant l) g.at out2
+      → Put out2 g.at (held_line_text g.plant) h.at out3 → h.at ≤ length out → desk h line out3 ≡ end_of k
   unfolding end_of
   end-ready {g} {h} {out2} {out3} r i j t q n =
-      let w = put_then t.1 (subst (λ (x : Plant). Put out2 g.at (held_line_text f x) h.at out3) t.0 q) n in
+      let w = put_then t.1 (subst (λ (x : Plant). Put out2 g.at (held_line_text x) h.at out3) t.0 q) n in
       ap (λ (x : Place). desk x line out3) (i ∙ ap (λ (x : Place). place_at x.used x.held h.at x.plant) j)
       ∙ ended-desk t.0 w
       ∙ sym (ap (λ b. cond b answered k) r)
     where
-      ended-desk : {at : ℕ} {q : Plant} {out3 : List ℕ} → q ≡ after_lines f p.plant l → Put out p.at (transcript f p.plant l) at out3
+      ended-desk : {at : ℕ} {q : Plant} {out3 : List ℕ} → q ≡ after_lines p.plant l → Put out p.at (transcript p.plant l) at out3
           → desk (place_at p.used 0 at q) line out3 ≡ answered
       ended-desk e w = λ i. record { place = record { used = p.used; held = 0; at = w.next i; plant = e i }; line = line; out = w.bytes i }

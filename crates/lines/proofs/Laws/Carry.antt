@@ -15,7 +15,6 @@ use native.Mathlib.Omega.{arith}
 use lib.Dec.{eqb}
 use lib.ListN.{length, take, drop}
 use lib.Seq.{take_all, take-add}
-use Rattle.vectors.specs.declared.figures.Figures.{Figures}
 use Rattle.lines.specs.declared.blocks.Place.{Place}
 use Rattle.reading.specs.Text.{newline}
 use Rattle.lines.specs.Session.{State, start, core, kept, run, ended, run_blocks, said, written, WrittenLaw}
@@ -23,86 +22,86 @@ use Rattle.lines.specs.Blocks.{Desk, place_at, block_of, state_of, carried}
 use Rattle.lines.proofs.Laws.Session.{run-append, printed-whole}
 use Rattle.lines.proofs.Laws.Run.{block-state, block-grows}
 
-core-byte : (f : Figures) (t : Bool) (st : State) (b : ℕ)
-    → core (cond t (ended f st) (kept st (b ∷ []))) ≡ core (cond t (ended f (core st)) (kept (core st) (b ∷ [])))
-core-byte f true st b = refl
-core-byte f false st b = refl
+core-byte : (t : Bool) (st : State) (b : ℕ)
+    → core (cond t (ended st) (kept st (b ∷ []))) ≡ core (cond t (ended (core st)) (kept (core st) (b ∷ [])))
+core-byte true st b = refl
+core-byte false st b = refl
 
-pub core-run : (f : Figures) (st : State) (s : List ℕ) → core (run f st s) ≡ core (run f (core st) s)
+pub core-run : (st : State) (s : List ℕ) → core (run st s) ≡ core (run (core st) s)
 unfolding run
-core-run f st [] = refl
-core-run f st (b ∷ s) =
-    core-run f (cond (eqb b newline) (ended f st) (kept st (b ∷ []))) s
-    ∙ ap (λ (x : State). core (run f x s)) (core-byte f (eqb b newline) st b)
-    ∙ sym (core-run f (cond (eqb b newline) (ended f (core st)) (kept (core st) (b ∷ []))) s)
+core-run st [] = refl
+core-run st (b ∷ s) =
+    core-run (cond (eqb b newline) (ended st) (kept st (b ∷ []))) s
+    ∙ ap (λ (x : State). core (run x s)) (core-byte (eqb b newline) st b)
+    ∙ sym (core-run (cond (eqb b newline) (ended (core st)) (kept (core st) (b ∷ []))) s)
 
-pub block-carried : (f : Figures) (block : List ℕ) (st : State) (k m : Desk) → m ≡ block_of f block k
-    → core (state_of k) ≡ core (run f st (take k.place.used block)) → core (state_of m) ≡ core (run f st (take m.place.used block))
-block-carried f block st k m e h =
+pub block-carried : (block : List ℕ) (st : State) (k m : Desk) → m ≡ block_of block k
+    → core (state_of k) ≡ core (run st (take k.place.used block)) → core (state_of m) ≡ core (run st (take m.place.used block))
+block-carried block st k m e h =
     let u = k.place.used in
-    let v = (block_of f block k).place.used in
+    let v = (block_of block k).place.used in
     let s = take (v - u) (drop u block) in
-    let n : u + (v - u) ≡ m.place.used = omega (arith, block-grows f block k, ap (λ (x : Desk). x.place.used) e) in
+    let n : u + (v - u) ≡ m.place.used = omega (arith, block-grows block k, ap (λ (x : Desk). x.place.used) e) in
     ap (λ (x : Desk). core (state_of x)) e
-    ∙ ap core (block-state f block k)
-    ∙ core-run f (state_of k) s
-    ∙ ap (λ (x : State). core (run f x s)) h
-    ∙ sym (core-run f (run f st (take u block)) s)
-    ∙ ap core (sym (run-append f st (take u block) s))
-    ∙ ap (λ (l : List ℕ). core (run f st l)) (sym (take-add u (v - u) block) ∙ ap (λ (x : ℕ). take x block) n)
+    ∙ ap core (block-state block k)
+    ∙ core-run (state_of k) s
+    ∙ ap (λ (x : State). core (run x s)) h
+    ∙ sym (core-run (run st (take u block)) s)
+    ∙ ap core (sym (run-append st (take u block) s))
+    ∙ ap (λ (l : List ℕ). core (run st l)) (sym (take-add u (v - u) block) ∙ ap (λ (x : ℕ). take x block) n)
 
-pub carried_none : (f : Figures) (block : List ℕ) (st : State) (n : ℕ) → n ≡ 0 → core st ≡ core (run f (core st) (take n block))
+pub carried_none : (block : List ℕ) (st : State) (n : ℕ) → n ≡ 0 → core st ≡ core (run (core st) (take n block))
 unfolding run
-carried_none f block st n h = ap (λ (k : ℕ). core (run f (core st) (take k block))) (sym h)
+carried_none block st n h = ap (λ (k : ℕ). core (run (core st) (take k block))) (sym h)
 
-pub carried-written : (f : Figures) (block : List ℕ) (st : State) (line : List ℕ) (r w : Place)
+pub carried-written : (block : List ℕ) (st : State) (line : List ℕ) (r w : Place)
     → w ≡ place_at r.used r.held 0 r.plant
-    → carried r line ≡ core (run f st (take r.used block)) → carried w line ≡ core (run f st (take w.used block))
-carried-written f block st line r w e p = rw e p
+    → carried r line ≡ core (run st (take r.used block)) → carried w line ≡ core (run st (take w.used block))
+carried-written block st line r w e p = rw e p
 
-pub carried-all : (f : Figures) (block : List ℕ) (st now : State) (n : ℕ) → length block ≤ n → now ≡ core (run f st (take n block))
-    → now ≡ core (run f st block)
-carried-all f block st now n h p = p ∙ ap (λ (l : List ℕ). core (run f st l)) (take_all n block h)
+pub carried-all : (block : List ℕ) (st now : State) (n : ℕ) → length block ≤ n → now ≡ core (run st (take n block))
+    → now ≡ core (run st block)
+carried-all block st now n h p = p ∙ ap (λ (l : List ℕ). core (run st l)) (take_all n block h)
 
 -- ---- what is written behind each block
 
 -- what a state has printed already stands before what the run prints
-printed-byte : (f : Figures) (t : Bool) (st : State) (b : ℕ)
-    → (cond t (ended f st) (kept st (b ∷ []))).printed ≡ st.printed ++ (cond t (ended f (core st)) (kept (core st) (b ∷ []))).printed
-printed-byte f true st b = refl
-printed-byte f false st b = sym (append-nil st.printed)
+printed-byte : (t : Bool) (st : State) (b : ℕ)
+    → (cond t (ended st) (kept st (b ∷ []))).printed ≡ st.printed ++ (cond t (ended (core st)) (kept (core st) (b ∷ []))).printed
+printed-byte true st b = refl
+printed-byte false st b = sym (append-nil st.printed)
 
-pub run-printed : (f : Figures) (st : State) (s : List ℕ) → (run f st s).printed ≡ st.printed ++ (run f (core st) s).printed
+pub run-printed : (st : State) (s : List ℕ) → (run st s).printed ≡ st.printed ++ (run (core st) s).printed
 unfolding run
-run-printed f st [] = sym (append-nil st.printed)
-run-printed f st (b ∷ s) =
+run-printed st [] = sym (append-nil st.printed)
+run-printed st (b ∷ s) =
     let t = eqb b newline in
-    let x = cond t (ended f st) (kept st (b ∷ [])) in
-    let y = cond t (ended f (core st)) (kept (core st) (b ∷ [])) in
-    run-printed f x s
-    ∙ ap (λ (l : List ℕ). l ++ (run f (core x) s).printed) (printed-byte f t st b)
-    ∙ append_assoc st.printed y.printed (run f (core x) s).printed
-    ∙ ap (λ (z : State). st.printed ++ (y.printed ++ (run f z s).printed)) (core-byte f t st b)
-    ∙ ap (λ (l : List ℕ). st.printed ++ l) (sym (run-printed f y s))
+    let x = cond t (ended st) (kept st (b ∷ [])) in
+    let y = cond t (ended (core st)) (kept (core st) (b ∷ [])) in
+    run-printed x s
+    ∙ ap (λ (l : List ℕ). l ++ (run (core x) s).printed) (printed-byte t st b)
+    ∙ append_assoc st.printed y.printed (run (core x) s).printed
+    ∙ ap (λ (z : State). st.printed ++ (y.printed ++ (run z s).printed)) (core-byte t st b)
+    ∙ ap (λ (l : List ℕ). st.printed ++ l) (sym (run-printed y s))
 
-blocks-printed : (f : Figures) (st : State) (bs : List (List ℕ))
-    → said f (run_blocks f st bs) ≡ st.printed ++ said f (run_blocks f (core st) bs)
+blocks-printed : (st : State) (bs : List (List ℕ))
+    → said (run_blocks st bs) ≡ st.printed ++ said (run_blocks (core st) bs)
 unfolding run_blocks
-blocks-printed f st [] = refl
-blocks-printed f st (b ∷ bs) =
-    let x = run f st b in
-    let y = run f (core st) b in
-    blocks-printed f x bs
-    ∙ ap (λ (l : List ℕ). l ++ said f (run_blocks f (core x) bs)) (run-printed f st b)
-    ∙ append_assoc st.printed y.printed (said f (run_blocks f (core x) bs))
-    ∙ ap (λ (z : State). st.printed ++ (y.printed ++ said f (run_blocks f z bs))) (core-run f st b)
-    ∙ ap (λ (l : List ℕ). st.printed ++ l) (sym (blocks-printed f y bs))
+blocks-printed st [] = refl
+blocks-printed st (b ∷ bs) =
+    let x = run st b in
+    let y = run (core st) b in
+    blocks-printed x bs
+    ∙ ap (λ (l : List ℕ). l ++ said (run_blocks (core x) bs)) (run-printed st b)
+    ∙ append_assoc st.printed y.printed (said (run_blocks (core x) bs))
+    ∙ ap (λ (z : State). st.printed ++ (y.printed ++ said (run_blocks z bs))) (core-run st b)
+    ∙ ap (λ (l : List ℕ). st.printed ++ l) (sym (blocks-printed y bs))
 
-written-said : (f : Figures) (st : State) (bs : List (List ℕ)) → written f st bs ≡ said f (run_blocks f st bs)
+written-said : (st : State) (bs : List (List ℕ)) → written st bs ≡ said (run_blocks st bs)
 unfolding written run_blocks
-written-said f st [] = refl
-written-said f st (b ∷ bs) =
-    ap (λ (l : List ℕ). (run f st b).printed ++ l) (written-said f (core (run f st b)) bs) ∙ sym (blocks-printed f (run f st b) bs)
+written-said st [] = refl
+written-said st (b ∷ bs) =
+    ap (λ (l : List ℕ). (run st b).printed ++ l) (written-said (core (run st b)) bs) ∙ sym (blocks-printed (run st b) bs)
 
 pub written-whole : WrittenLaw
-written-whole f p bs = written-said f (start p) bs ∙ printed-whole f p bs
+written-whole p bs = written-said (start p) bs ∙ printed-whole p bs

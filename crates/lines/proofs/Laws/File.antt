@@ -12,13 +12,13 @@ use Rattle.lines.specs.Session.{cut_lines, entries, FileLaw}
 use Rattle.lines.proofs.Laws.Session.{after-entries}
 
 pub file : FileLaw
-file f ok s =
+file f h s =
     let es = entries (cut_lines s) in
-    let b = balance f ok es in
-    let p = after f fresh_plant es in
+    let b = balance f es in
+    let p = after (fresh_plant f) es in
     record {
-      held = held_totals (cod_in p) (tkn_in f p) (oxygen_in p) (nitrate_in p);
-      told = ap (held_of f) (after-entries f fresh_plant (cut_lines s)) ∙ held_after f es;
+      held = held_totals (cod_in p) (tkn_in p) (oxygen_in p) (nitrate_in p);
+      told = ap held_of (after-entries (fresh_plant f) (cut_lines s)) ∙ held_after f h es;
       cod = b.cod;
       tkn = b.tkn;
       oxygen = b.oxygen;

@@ -8,7 +8,6 @@ use Prim.Native.Nat.{ℕ, ◌≤◌}
 use lib.Dec.{leb}
 use lib.ListN.{length}
 use borrow.Author.Tests.{leb-true, leb-false}
-use Rattle.vectors.specs.declared.figures.Figures.{Figures}
 use Rattle.refusals.specs.declared.Refusal.TheVariants.{NoForm}
 use Rattle.plant.specs.declared.record.Plant.{Plant}
 use Rattle.plant.specs.declared.answer.Outcome.{Outcome}
@@ -23,14 +22,14 @@ use Rattle.lines.specs.Asking.{form_outcome, outcome_text}
 use Rattle.lines.specs.Session.{given_by, PreviewLaw}
 use Rattle.reading.proofs.Laws.Line.{line-long, preview-form-law}
 
-module _ (f : Figures) (p : Plant) where
+module _ (p : Plant) where
   -- ---- a preview of what a line is read as
 
   -- the preview of a call, and of a preview
   abbrev Previewed : (Outcome → Type 0) → Asked → Bool → Type 0
-  Previewed A a b = A (form_outcome f p (cond b no_form (Some (record { request = a.request; preview = true }))))
+  Previewed A a b = A (form_outcome p (cond b no_form (Some (record { request = a.request; preview = true }))))
 
-  plant-by : (l : Option Asked) → (form_outcome f p (preview_line l)).plant ≡ p
+  plant-by : (l : Option Asked) → (form_outcome p (preview_line l)).plant ≡ p
   unfolding preview_of
   plant-by None = refl
   plant-by (Some a) = go a.preview
@@ -39,16 +38,16 @@ module _ (f : Figures) (p : Plant) where
       go true = refl
       go false = refl
 
-  answer-by : (l : Option Asked) → is_previewed l ≡ false → outcome_text (form_outcome f p (preview_line l)) ≡ outcome_text (form_outcome f p l)
+  answer-by : (l : Option Asked) → is_previewed l ≡ false → outcome_text (form_outcome p (preview_line l)) ≡ outcome_text (form_outcome p l)
   unfolding preview_of
   answer-by None e = refl
   answer-by (Some a) e = go a.preview e
     where
-      go : (b : Bool) → b ≡ false → Previewed (λ (o : Outcome). outcome_text o ≡ outcome_text (outcome_by f p b a.request)) a b
+      go : (b : Bool) → b ≡ false → Previewed (λ (o : Outcome). outcome_text o ≡ outcome_text (outcome_by p b a.request)) a b
       go true e = absurd (false≢true (sym e))
       go false e = refl
 
-  nested-by : (l : Option Asked) → is_previewed l ≡ true → form_outcome f p (preview_line l) ≡ refused p NoForm
+  nested-by : (l : Option Asked) → is_previewed l ≡ true → form_outcome p (preview_line l) ≡ refused p NoForm
   nested-by None e = refl
   nested-by (Some a) e = go a.preview e
     where
@@ -59,26 +58,27 @@ module _ (f : Figures) (p : Plant) where
   -- ---- the line of the preview, which is too long or not
 
   module _ (u : List ℕ) where
-    given_whole : length (preview_text u) ≤ 1024 → given_by f p (preview_text u) ≡ form_outcome f p (preview_line (read_line u))
+    given_whole : length (preview_text u) ≤ 1024 → given_by p (preview_text u) ≡ form_outcome p (preview_line (read_line u))
     unfolding given_by
-    given_whole h = ap (form_outcome f p) (preview-form-law u h)
+    given_whole h = ap (form_outcome p) (preview-form-law u h)
 
     -- what holds of a preview, and of a line that is no form, holds of the line of a preview
-    by_length : (A : Outcome → Type 0) → A (form_outcome f p (preview_line (read_line u))) → A (refused p NoForm) → A (given_by f p (preview_text u))
+    by_length : (A : Outcome → Type 0) → A (form_outcome p (preview_line (read_line u))) → A (refused p NoForm)
+        → A (given_by p (preview_text u))
     unfolding given_by
     by_length A y n = go (leb (length (preview_text u)) 1024) refl
       where
-        go : (b : Bool) → leb (length (preview_text u)) 1024 ≡ b → A (form_outcome f p (read_line (preview_text u)))
-        go true e = subst (λ (l : Option Asked). A (form_outcome f p l)) (sym (preview-form-law u (leb-true _ _ e))) y
-        go false e = subst (λ (l : Option Asked). A (form_outcome f p l)) (line-long (preview_text u) (leb-false _ _ e)) n
+        go : (b : Bool) → leb (length (preview_text u)) 1024 ≡ b → A (form_outcome p (read_line (preview_text u)))
+        go true e = subst (λ (l : Option Asked). A (form_outcome p l)) (sym (preview-form-law u (leb-true _ _ e))) y
+        go false e = subst (λ (l : Option Asked). A (form_outcome p l)) (line-long (preview_text u) (leb-false _ _ e)) n
 
 pub preview-given : PreviewLaw
 unfolding given_by
-preview-given f p u =
+preview-given p u =
     let l = read_line u in
     record {
-      plant = by_length f p u (λ (o : Outcome). o.plant ≡ p) (plant-by f p l) refl;
-      answer = λ h e. ap (λ (o : Outcome). outcome_text o ++ (newline ∷ [])) (given_whole f p u h)
-          ∙ ap (λ (t : List ℕ). t ++ (newline ∷ [])) (answer-by f p l e);
-      nested = λ e. by_length f p u (λ (o : Outcome). o ≡ refused p NoForm) (nested-by f p l e) refl;
+      plant = by_length p u (λ (o : Outcome). o.plant ≡ p) (plant-by p l) refl;
+      answer = λ h e. ap (λ (o : Outcome). outcome_text o ++ (newline ∷ [])) (given_whole p u h)
+          ∙ ap (λ (t : List ℕ). t ++ (newline ∷ [])) (answer-by p l e);
+      nested = λ e. by_length p u (λ (o : Outcome). o ≡ refused p NoForm) (nested-by p l e) refl;
     }

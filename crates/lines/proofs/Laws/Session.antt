@@ -13,7 +13,6 @@ use lib.Dec.{eqb, leb}
 use lib.ListN.{length, take}
 use lib.Seq.{take_all, length-take-le}
 use borrow.Author.Tests.{leb-true, leb-false}
-use Rattle.vectors.specs.declared.figures.Figures.{Figures}
 use Rattle.plant.specs.declared.record.Plant.{Plant}
 use Rattle.plant.specs.declared.answer.Outcome.{Outcome}
 use Rattle.plant.specs.Calls.{outcome_by}
@@ -38,16 +37,16 @@ line-cut l = go (leb (length l) 1025) refl
         let k = leb-false (length l) 1025 h in
         sym (line-long (take 1025 l) (omega (arith, length-take-le 1025 l (omega arith)))) ∙ line-long l (omega arith)
 
-pub given-cut : (f : Figures) (p : Plant) (l : List ℕ) → given_by f p (take 1025 l) ≡ given_by f p l
+pub given-cut : (p : Plant) (l : List ℕ) → given_by p (take 1025 l) ≡ given_by p l
 unfolding given_by
-given-cut f p l = ap (form_outcome f p) (line-cut l)
+given-cut p l = ap (form_outcome p) (line-cut l)
 
 -- ---- bytes
 
-pub run-append : (f : Figures) (st : State) (a b : List ℕ) → run f st (a ++ b) ≡ run f (run f st a) b
+pub run-append : (st : State) (a b : List ℕ) → run st (a ++ b) ≡ run (run st a) b
 unfolding run
-run-append f st [] b = refl
-run-append f st (x ∷ a) b = run-append f (cond (eqb x newline) (ended f st) (kept st (x ∷ []))) a b
+run-append st [] b = refl
+run-append st (x ∷ a) b = run-append (cond (eqb x newline) (ended st) (kept st (x ∷ []))) a b
 
 pub take-take-append : (n : ℕ) (x s : List ℕ) → take n (take n x ++ s) ≡ take n (x ++ s)
 take-take-append zero x s = refl
@@ -61,54 +60,53 @@ from h p out = record { held = h; plant = p; printed = out }
 abbrev behind : List ℕ → Outcome → State
 behind out o = from [] o.plant (out ++ (outcome_text o ++ (newline ∷ [])))
 
-module _ (f : Figures) where
-  -- one byte more: a newline or not
-  one : (t : Bool) (input h : List ℕ) (p : Plant) (out : List ℕ) (b : ℕ)
-      → said f (run f (from [] (after_line f p h) (out ++ answer_of f p h)) input)
-      ≡ (out ++ answer_of f p h) ++ transcript f (after_line f p h) (cut [] input)
-      → said f (run f (from (take 1025 (h ++ (b ∷ []))) p out) input) ≡ out ++ transcript f p (cut (h ++ (b ∷ [])) input)
-      → said f (run f (cond t (ended f (from (take 1025 h) p out)) (kept (from (take 1025 h) p out) (b ∷ []))) input)
-      ≡ out ++ transcript f p (cond t (h ∷ cut [] input) (cut (h ++ (b ∷ [])) input))
-  unfolding answers after_lines
-  one true input h p out b e q =
-      ap (λ (o : Outcome). said f (run f (behind out o) input)) (given-cut f p h)
-      ∙ e
-      ∙ simp append_assoc
-  one false input h p out b e q = ap (λ (l : List ℕ). said f (run f (from l p out) input)) (take-take-append 1025 h (b ∷ [])) ∙ q
+-- one byte more: a newline or not
+one : (t : Bool) (input h : List ℕ) (p : Plant) (out : List ℕ) (b : ℕ)
+    → said (run (from [] (after_line p h) (out ++ answer_of p h)) input)
+    ≡ (out ++ answer_of p h) ++ transcript (after_line p h) (cut [] input)
+    → said (run (from (take 1025 (h ++ (b ∷ []))) p out) input) ≡ out ++ transcript p (cut (h ++ (b ∷ [])) input)
+    → said (run (cond t (ended (from (take 1025 h) p out)) (kept (from (take 1025 h) p out) (b ∷ []))) input)
+    ≡ out ++ transcript p (cond t (h ∷ cut [] input) (cut (h ++ (b ∷ [])) input))
+unfolding answers after_lines
+one true input h p out b e q =
+    ap (λ (o : Outcome). said (run (behind out o) input)) (given-cut p h)
+    ∙ e
+    ∙ simp append_assoc
+one false input h p out b e q = ap (λ (l : List ℕ). said (run (from l p out) input)) (take-take-append 1025 h (b ∷ [])) ∙ q
 
-  -- from a state that holds h, cut to what the program holds of it
-  from-held : (input h : List ℕ) (p : Plant) (out : List ℕ)
-      → said f (run f (from (take 1025 h) p out) input) ≡ out ++ transcript f p (cut h input)
-  unfolding run cut answers after_lines
-  from-held [] [] p out = refl
-  from-held [] (b ∷ h) p out =
-      ap (λ (o : Outcome). out ++ ((outcome_text o ++ (newline ∷ [])) ++ [] ++ held_line_text f o.plant)) (given-cut f p (b ∷ h))
-  from-held (b ∷ input) h p out =
-      one (eqb b newline) input h p out b
-      (from-held input [] (after_line f p h) (out ++ answer_of f p h))
-      (from-held input (h ++ (b ∷ [])) p out)
+-- from a state that holds h, cut to what the program holds of it
+from-held : (input h : List ℕ) (p : Plant) (out : List ℕ)
+    → said (run (from (take 1025 h) p out) input) ≡ out ++ transcript p (cut h input)
+unfolding run cut answers after_lines
+from-held [] [] p out = refl
+from-held [] (b ∷ h) p out =
+    ap (λ (o : Outcome). out ++ ((outcome_text o ++ (newline ∷ [])) ++ [] ++ held_line_text o.plant)) (given-cut p (b ∷ h))
+from-held (b ∷ input) h p out =
+    one (eqb b newline) input h p out b
+    (from-held input [] (after_line p h) (out ++ answer_of p h))
+    (from-held input (h ++ (b ∷ [])) p out)
 
-blocks-joined : (f : Figures) (st : State) (bs : List (List ℕ)) → run_blocks f st bs ≡ run f st (joined bs)
+blocks-joined : (st : State) (bs : List (List ℕ)) → run_blocks st bs ≡ run st (joined bs)
 unfolding joined run_blocks run
-blocks-joined f st [] = refl
-blocks-joined f st (b ∷ bs) = blocks-joined f (run f st b) bs ∙ sym (run-append f st b (joined bs))
+blocks-joined st [] = refl
+blocks-joined st (b ∷ bs) = blocks-joined (run st b) bs ∙ sym (run-append st b (joined bs))
 
 pub printed-whole : PrintedLaw
-printed-whole f p bs = ap (said f) (blocks-joined f (start p) bs) ∙ from-held f (joined bs) [] p []
+printed-whole p bs = ap said (blocks-joined (start p) bs) ∙ from-held (joined bs) [] p []
 
 -- ---- the calls and previews that lines ask
 
-module _ (f : Figures) (ls : List (List ℕ)) where
-  after-entry : (l : Option Asked) (p : Plant) → ((q : Plant) → after_lines f q ls ≡ after f q (entries ls))
-      → after_lines f (form_outcome f p l).plant ls ≡ after f p (entry_of l (entries ls))
+module _ (ls : List (List ℕ)) where
+  after-entry : (l : Option Asked) (p : Plant) → ((q : Plant) → after_lines q ls ≡ after q (entries ls))
+      → after_lines (form_outcome p l).plant ls ≡ after p (entry_of l (entries ls))
   after-entry (Some a) p h = go a.preview
     where
-      go : (b : Bool) → after_lines f (outcome_by f p b a.request).plant ls ≡ after f p (entry b a.request ∷ entries ls)
-      go true = h (outcome_by f p true a.request).plant
-      go false = h (outcome_by f p false a.request).plant
+      go : (b : Bool) → after_lines (outcome_by p b a.request).plant ls ≡ after p (entry b a.request ∷ entries ls)
+      go true = h (outcome_by p true a.request).plant
+      go false = h (outcome_by p false a.request).plant
   after-entry None p h = h p
 
-pub after-entries : (f : Figures) (p : Plant) (ls : List (List ℕ)) → after_lines f p ls ≡ after f p (entries ls)
+pub after-entries : (p : Plant) (ls : List (List ℕ)) → after_lines p ls ≡ after p (entries ls)
 unfolding after_lines entries given_by
-after-entries f p [] = refl
-after-entries f p (l ∷ ls) = after-entry f ls (read_line l) p (λ (q : Plant). after-entries f q ls)
+after-entries p [] = refl
+after-entries p (l ∷ ls) = after-entry ls (read_line l) p (λ (q : Plant). after-entries q ls)

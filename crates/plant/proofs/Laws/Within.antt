@@ -22,10 +22,10 @@ use Rattle.plant.specs.declared.answer.Call.{Call}
 use Rattle.plant.specs.declared.answer.Call.TheVariants as call
 use Rattle.plant.specs.declared.answer.Request.{Request}
 use Rattle.plant.specs.declared.answer.Outcome.{Outcome}
-use Rattle.plant.specs.Record.{fresh_plant, record_within}
+use Rattle.plant.specs.Record.{fresh_plant, record_within, record_refusal}
 use Rattle.std.specs.Prelude.{None, Result, Ok, Err}
 use Rattle.refusals.specs.declared.Refusal.{Refusal}
-use Rattle.refusals.specs.declared.Refusal.TheVariants.{RecordAbove, ColumnAbove, TankAbove}
+use Rattle.refusals.specs.declared.Refusal.TheVariants.{ColumnAbove, TankAbove}
 use Rattle.refusals.specs.Tests.{unless, first}
 use Rattle.interface.specs.declared.feed.Fed.{Fed}
 use Rattle.interface.specs.declared.returning.Returned.{Returned}
@@ -34,7 +34,7 @@ use Rattle.interface.specs.Feed.{feed_of}
 use Rattle.interface.specs.Return.{return_of}
 use Rattle.plant.specs.Calls.{settled_tests, fed_tests, fed, returned_tests, returned}
 use Rattle.plant.proofs.Laws.Record.{sludge-within, digester-within, reject-within}
-use Rattle.plant.proofs.Laws.Decision.{decide-case, passed, draw-passed}
+use Rattle.plant.proofs.Laws.Decision.{decide-case, passed-by, passed, draw-passed}
 
 -- ---- vectors and records
 
@@ -58,34 +58,36 @@ tanks-within p s d r = rw (s, d) r
 abbrev Stays : Outcome → Type 0
 Stays o = record_within o.plant ≡ true
 
-module _ (f : Figures) (p : Plant) (h : record_within p ≡ true) where
+module _ (p : Plant) (h : record_within p ≡ true) where
   fed-within : (x : Result Fed Refusal) (r : List ℕ) → within asm1_ceilings r ≡ true → first (fed_tests p x) ≡ None → Stays (fed p x r)
-  fed-within (Ok o) r w e = tanks-within _ w (passed (within digester_ceilings (added p.digester o.vector)) TankAbove [] e).0 (reject-within p h)
+  fed-within (Ok o) r w e =
+      tanks-within _ w (passed (within digester_ceilings (added p.digester o.vector)) TankAbove [] e).0 (reject-within p h)
   fed-within (Err n) r w e = absurd (cc e)
 
   returned-within : (x : Result Returned Refusal) (r : List ℕ) → within digester_ceilings r ≡ true → first (returned_tests p x) ≡ None
       → Stays (returned p x r)
-  returned-within (Ok o) r w e = tanks-within _ (sludge-within p h) w (passed (within asm1_ceilings (added p.reject o.vector)) TankAbove [] e).0
+  returned-within (Ok o) r w e =
+      tanks-within _ (sludge-within p h) w (passed (within asm1_ceilings (added p.reject o.vector)) TankAbove [] e).0
   returned-within (Err n) r w e = absurd (cc e)
 
   -- each call where no refusal applies: a further call is one more row
-  done-within : (c : Call) (v d : List ℕ) → first (rule_by f p c v d).tests ≡ None → Stays (rule_by f p c v d).done
+  done-within : (c : Call) (v d : List ℕ) → first (rule_by p c v d).tests ≡ None → Stays (rule_by p c v d).done
   unfolding receive feed settle give_back release recycle
   done-within call.Receive v d e =
       let fits = unless (within asm1_ceilings (added p.sludge v)) TankAbove ∷ [] in
-      let e1 = (passed (record_within p) RecordAbove (unless (within asm1_ceilings v) ColumnAbove ∷ fits) e).1 in
+      let e1 = (passed-by (record_refusal p) (unless (within asm1_ceilings v) ColumnAbove ∷ fits) e).1 in
       let e2 = (passed (within asm1_ceilings v) ColumnAbove fits e1).1 in
       tanks-within _ (passed (within asm1_ceilings (added p.sludge v)) TankAbove [] e2).0 (digester-within p h) (reject-within p h)
   done-within (call.Feed k) v d e =
-      let x = feed_of f (drawn k p.sludge) in
+      let x = feed_of p.figures (drawn k p.sludge) in
       fed-within x _ (rest-within k asm1_ceilings p.sludge (sludge-within p h)) (draw-passed p k (fed_tests p x) e).1
   done-within (call.Settle g) v d e =
-      let ts = unless (within digester_ceilings d) ColumnAbove ∷ settled_tests f p.digester g d in
-      let e1 = (passed (record_within p) RecordAbove ts e).1 in
-      let proposed = (passed (within digester_ceilings d) ColumnAbove (settled_tests f p.digester g d) e1).0 in
+      let ts = unless (within digester_ceilings d) ColumnAbove ∷ settled_tests p.figures p.digester g d in
+      let e1 = (passed-by (record_refusal p) ts e).1 in
+      let proposed = (passed (within digester_ceilings d) ColumnAbove (settled_tests p.figures p.digester g d) e1).0 in
       tanks-within _ (sludge-within p h) proposed (reject-within p h)
   done-within (call.Return k) v d e =
-      let x = return_of f (drawn k p.digester) in
+      let x = return_of p.figures (drawn k p.digester) in
       returned-within x _ (rest-within k digester_ceilings p.digester (digester-within p h)) (draw-passed p k (returned_tests p x) e).1
   done-within (call.Release k) v d e =
       tanks-within _ (sludge-within p h) (digester-within p h) (rest-within k asm1_ceilings p.reject (reject-within p h))
@@ -94,12 +96,12 @@ module _ (f : Figures) (p : Plant) (h : record_within p ≡ true) where
       let fits = (passed filled TankAbove [] (draw-passed p k (unless filled TankAbove ∷ []) e).1).0 in
       tanks-within _ fits (digester-within p h) (rest-within k asm1_ceilings p.reject (reject-within p h))
 
-pub step-within : (f : Figures) (p : Plant) (r : Request) → record_within p ≡ true → record_within (step f p r).plant ≡ true
+pub step-within : (p : Plant) (r : Request) → record_within p ≡ true → record_within (step p r).plant ≡ true
 unfolding step_by ruled
-step-within f p r h =
-    let rule = rule_by f p r.call r.sludge r.digester in
-    decide-case Stays p (first rule.tests) rule.done (done-within f p h r.call r.sludge r.digester) (λ n. h)
+step-within p r h =
+    let rule = rule_by p r.call r.sludge r.digester in
+    decide-case Stays p (first rule.tests) rule.done (done-within p h r.call r.sludge r.digester) (λ n. h)
 
-pub fresh-within : record_within fresh_plant ≡ true
+pub fresh-within : (f : Figures) → record_within (fresh_plant f) ≡ true
 unfolding record_within within
-fresh-within = refl
+fresh-within f = refl

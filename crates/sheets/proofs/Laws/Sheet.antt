@@ -19,7 +19,6 @@ use Rattle.std.proofs.lemmas.List.Sums.{sum_by-cons}
 use Rattle.std.proofs.lemmas.Slice.Zip.{get_or-zip, length-zip}
 use Rattle.refusals.specs.declared.Refusal.{Refusal}
 use Rattle.refusals.specs.Tests as sent
-use Rattle.vectors.specs.declared.figures.Figures.{Figures}
 use Rattle.vectors.specs.declared.units.Milligrams.{Milligrams}
 use Rattle.vectors.specs.Columns.{asm1_ceilings, within, Below, added}
 use Rattle.vectors.specs.Totals.{asm1_cod, asm1_oxygen}
@@ -27,12 +26,12 @@ use Rattle.vectors.specs.Units.{milligrams}
 use Rattle.vectors.proofs.Laws.Columns.{within-below}
 use Rattle.plant.specs.declared.record.Plant.{Plant}
 use Rattle.plant.specs.declared.answer.Outcome.{Outcome}
-use Rattle.plant.specs.Record.{record_within}
+use Rattle.plant.specs.Record.{record_refusal}
 use Rattle.plant.specs.Answer.{refused_with}
 use Rattle.plant.specs.Calls.{receive, ruled, step_by, step, receiving}
-use Rattle.plant.proofs.Laws.Calls.{sent-first}
+use Rattle.plant.proofs.Laws.Calls.{sent-first, figures-kept}
 use Rattle.plant.proofs.Laws.Decision.{decide-case}
-use Rattle.refusals.specs.declared.Refusal.TheVariants.{RecordAbove, TankAbove}
+use Rattle.refusals.specs.declared.Refusal.TheVariants.{TankAbove}
 use Rattle.std.specs.Prelude.{is_none}
 use Rattle.std.specs.Result.{result_err, result_map_both}
 use Rattle.sheets.specs.declared.call.SheetOutcome.{SheetOutcome}
@@ -87,7 +86,8 @@ module _ {A : Type 0} where
   collected-stop (x ∷ xs) r ts = rw (collected-stop xs r ts)
 
   -- as far as i, the list ts is xs
-  module _ (ts : List (Result A Refusal)) (xs : List A) (i : ℕ) (so_far : take i ts ≡ map Ok (take i xs)) (h : i < length ts) (d : Result A Refusal) where
+  module _ (ts : List (Result A Refusal)) (xs : List A) (i : ℕ) (so_far : take i ts ≡ map Ok (take i xs)) (h : i < length ts)
+      (d : Result A Refusal) where
     pub read-more : (x : A) → i < length xs → get_or ts i d ≡ Ok x → take (i + 1) ts ≡ map Ok (take (i + 1) (set xs i x))
     read-more x l e =
         rw (add-one, take-suc-set xs i x l, map-append) (take-suc ts i d h ∙ rw (so_far, e))
@@ -98,7 +98,8 @@ module _ {A : Type 0} where
         sym (take-append-drop i ts) ∙ rw (so_far, drop-cons ts i d h, e) in
         ap collected cut ∙ collected-stop (take i xs) r (drop (suc i) ts)
 
-pub read-end : {A : Type 0} (ts : List (Result A Refusal)) (xs : List A) (i : ℕ) → take i ts ≡ map Ok (take i xs) → length ts ≤ i → length xs ≤ i
+pub read-end : {A : Type 0} (ts : List (Result A Refusal)) (xs : List A) (i : ℕ) → take i ts ≡ map Ok (take i xs) → length ts ≤ i
+    → length xs ≤ i
     → Ok xs ≡ collected ts
 read-end ts xs i e h l = sym (collected-all xs) ∙ ap collected (ap (map Ok) (sym (take_all i xs l)) ∙ sym e ∙ take_all i ts h)
 
@@ -163,7 +164,8 @@ pub unseen-added : (v : List ℕ) (n : ℕ) {all : Milligrams} → all.0 ≡ asm
     → record { milligrams = all; ticks = (unseen_by v n).ticks; millimoles = (unseen_by v n).millimoles; unsampled = n } ≡ unseen_by v n
 unfolding unseen_by
 unseen-added v n e =
-    ap (λ (m : ℕ). record { milligrams = milligrams m; ticks = (unseen_by v n).ticks; millimoles = (unseen_by v n).millimoles; unsampled = n }) e
+    ap (λ (m : ℕ). record
+    { milligrams = milligrams m; ticks = (unseen_by v n).ticks; millimoles = (unseen_by v n).millimoles; unsampled = n }) e
 
 -- by the readings of a sheet
 module _ (s : List (Finding Float)) (xs : List (Finding ℕ)) (e : Ok xs ≡ sheet_readings s) where
@@ -175,100 +177,111 @@ module _ (s : List (Finding Float)) (xs : List (Finding ℕ)) (e : Ok xs ≡ she
       within-below asm1_ceilings (map limit xs)
       (ap (within asm1_ceilings) (sym (ap (map (read_as limit 0)) all-read ∙ numbers-read limit 0 xs)) ∙ limits-within s)
 
-  pub sheet-received : (f : Figures) (p : Plant) {u : Unseen} {o : Outcome} {r : SheetOutcome}
-      → u ≡ unseen_by (map limit xs) (count_by missing xs) → o ≡ step f p (receiving (map count xs)) → r ≡ sheet_received u o
-      → r ≡ sheet_step f p s
+  pub sheet-received : (p : Plant) {u : Unseen} {o : Outcome} {r : SheetOutcome}
+      → u ≡ unseen_by (map limit xs) (count_by missing xs) → o ≡ step p (receiving (map count xs)) → r ≡ sheet_received u o
+      → r ≡ sheet_step p s
   unfolding sheet_step
-  sheet-received f p {u} {o} {r} a b c =
-      let none : refusal_in s ≡ None = ap (λ (ts : List Reading). sent.first (map (λ (t : Reading). result_err t) ts)) all-read ∙ none-sent xs in
+  sheet-received p {u} {o} {r} a b c =
+      let none : refusal_in s ≡ None = ap (λ (ts : List Reading). sent.first (map (λ (t : Reading). result_err t) ts)) all-read
+      ∙ none-sent xs in
       let counts : counts_of s ≡ map count xs = ap (map (read_as count 0)) all-read ∙ numbers-read count 0 xs in
       let limits : limits_of s ≡ map limit xs = ap (map (read_as limit 0)) all-read ∙ numbers-read limit 0 xs in
       let gone : not_sampled s ≡ count_by missing xs = ap (count_by (read_as missing false)) all-read ∙ count-read missing false xs in
       c ∙ (λ i. sheet_received (a i) (b i))
-      ∙ (λ i. sheet_received (unseen_by (sym limits i) (sym gone i)) (step f p (receiving (sym counts i))))
-      ∙ ap (λ (q : Option Refusal). sheet_by q f p s) (sym none)
+      ∙ (λ i. sheet_received (unseen_by (sym limits i) (sym gone i)) (step p (receiving (sym counts i))))
+      ∙ ap (λ (q : Option Refusal). sheet_by q p s) (sym none)
 
-pub sheet-turned : (s : List (Finding Float)) (q : Refusal) → Err q ≡ sheet_readings s → (f : Figures) (p : Plant)
-    → sheet_refused p q ≡ sheet_step f p s
+pub sheet-turned : (s : List (Finding Float)) (q : Refusal) → Err q ≡ sheet_readings s → (p : Plant)
+    → sheet_refused p q ≡ sheet_step p s
 unfolding sheet_step
-sheet-turned s q e f p = ap (λ (o : Option Refusal). sheet_by o f p s) (sym (stop-collected (readings s) q (sym e)))
+sheet-turned s q e p = ap (λ (o : Option Refusal). sheet_by o p s) (sym (stop-collected (readings s) q (sym e)))
 
 -- ---- the claims on the call
 
 -- a test that gives nothing, behind another
-skipped : (b : Bool) (r : Refusal) (ts : List (Option Refusal)) → sent.first (sent.unless b r ∷ None ∷ ts) ≡ sent.first (sent.unless b r ∷ ts)
-skipped true r ts = refl
-skipped false r ts = refl
+skipped : (t : Option Refusal) (ts : List (Option Refusal)) → sent.first (t ∷ None ∷ ts) ≡ sent.first (t ∷ ts)
+skipped None ts = refl
+skipped (Some r) ts = refl
 
 -- the refusal of a receive of a sheet's counts: its 3 never applies
-receive-tests : (f : Figures) (p : Plant) (s : List (Finding Float)) → refused_with (step f p (receiving (counts_of s))).answer
+receive-tests : (p : Plant) (s : List (Finding Float)) → refused_with (step p (receiving (counts_of s))).answer
     ≡ sent.first
-    (sent.unless (record_within p) RecordAbove ∷ sent.unless (within asm1_ceilings (added p.sludge (counts_of s))) TankAbove ∷ [])
+    (record_refusal p ∷ sent.unless (within asm1_ceilings (added p.sludge (counts_of s))) TankAbove ∷ [])
 unfolding receive
-receive-tests f p s =
-    sent-first f p (receiving (counts_of s))
+receive-tests p s =
+    sent-first p (receiving (counts_of s))
     ∙ rw (counts-within s)
-    (skipped (record_within p) RecordAbove (sent.unless (within asm1_ceilings (added p.sludge (counts_of s))) TankAbove ∷ []))
+    (skipped (record_refusal p) (sent.unless (within asm1_ceilings (added p.sludge (counts_of s))) TankAbove ∷ []))
 
 told-err : {A : Type 0} (o : Option Refusal) (x : A) → result_err (sent.decide o x) ≡ o
 told-err None x = refl
 told-err (Some r) x = refl
 
 -- by the refusal in the sheet
-module _ (f : Figures) (p : Plant) (s : List (Finding Float)) where
+module _ (p : Plant) (s : List (Finding Float)) where
   sheet-case : (P : SheetOutcome → Type 0)
-      → (refusal_in s ≡ None → P (sheet_received (unseen_of s) (step f p (receiving (counts_of s)))))
-      → ((r : Refusal) → refusal_in s ≡ Some r → P (sheet_refused p r)) → P (sheet_step f p s)
+      → (refusal_in s ≡ None → P (sheet_received (unseen_of s) (step p (receiving (counts_of s)))))
+      → ((r : Refusal) → refusal_in s ≡ Some r → P (sheet_refused p r)) → P (sheet_step p s)
   unfolding sheet_step
   sheet-case P g h = go (refusal_in s) refl
     where
-      go : (o : Option Refusal) → refusal_in s ≡ o → P (sheet_by o f p s)
+      go : (o : Option Refusal) → refusal_in s ≡ o → P (sheet_by o p s)
       go None e = g e
       go (Some r) e = h r e
 
-  pub sheet-plant : (sheet_step f p s).plant ≡ cond (is_none (refusal_in s)) (step f p (receiving (counts_of s))).plant p
+  pub sheet-plant : (sheet_step p s).plant ≡ cond (is_none (refusal_in s)) (step p (receiving (counts_of s))).plant p
   sheet-plant =
-      sheet-case (λ r. r.plant ≡ cond (is_none (refusal_in s)) (step f p (receiving (counts_of s))).plant p)
+      sheet-case (λ r. r.plant ≡ cond (is_none (refusal_in s)) (step p (receiving (counts_of s))).plant p)
       (λ e. rw e)
       (λ r e. rw e)
 
+-- a sheet, refused or not, returns the figures that it was handed
+pub sheet-figures : (p : Plant) (s : List (Finding Float)) → (sheet_step p s).plant.figures ≡ p.figures
+sheet-figures p s =
+    sheet-case p s (λ r. r.plant.figures ≡ p.figures)
+    (λ e. figures-kept p (receiving (counts_of s)))
+    (λ r e. refl)
+
 pub sheet-tests : SheetTestsLaw
-sheet-tests f p s =
-    let ts = sent.unless (record_within p) RecordAbove ∷ sent.unless (within asm1_ceilings (added p.sludge (counts_of s))) TankAbove ∷ [] in
-    sheet-case f p s (λ r. result_err r.told ≡ sent.first (refusal_in s ∷ ts))
-    (λ e. told-err (refused_with (step f p (receiving (counts_of s))).answer) (unseen_of s) ∙ receive-tests f p s ∙ rw e refl)
+sheet-tests p s =
+    let ts = record_refusal p ∷ sent.unless (within asm1_ceilings (added p.sludge (counts_of s))) TankAbove ∷ [] in
+    sheet-case p s (λ r. result_err r.told ≡ sent.first (refusal_in s ∷ ts))
+    (λ e. told-err (refused_with (step p (receiving (counts_of s))).answer) (unseen_of s) ∙ receive-tests p s ∙ rw e refl)
     (λ r e. rw e)
 
 -- a receive gives its refusal and the record back, or adds
-module _ (f : Figures) (p : Plant) (v : List ℕ) (u : Unseen) where
-  receive-refused : (r : Refusal) → let o = step f p (receiving v) in (sheet_received u o).told ≡ Err r → sheet_received u o ≡ sheet_refused p r
+module _ (p : Plant) (v : List ℕ) (u : Unseen) where
+  receive-refused : (r : Refusal) → let o = step p (receiving v) in (sheet_received u o).told ≡ Err r
+      → sheet_received u o ≡ sheet_refused p r
   unfolding step_by ruled receive
   receive-refused r =
       let rule = receive p v in
-      decide-case (λ (o : Outcome). (sheet_received u o).told ≡ Err r → sheet_received u o ≡ sheet_refused p r) p (sent.first rule.tests) rule.done
+      decide-case (λ (o : Outcome). (sheet_received u o).told ≡ Err r → sheet_received u o ≡ sheet_refused p r) p (sent.first rule.tests)
+      rule.done
       (λ e h. absurd (cc h))
       (λ q h. let w : q ≡ r = cc h in rw w refl)
 
-  receive-adds : (w : Unseen) → let o = step f p (receiving v) in (sheet_received u o).told ≡ Ok w
-      → sheet_received u o ≡ record { told = Ok u; plant = record { sludge = added p.sludge v; digester = p.digester; reject = p.reject } }
+  receive-adds : (w : Unseen) → let o = step p (receiving v) in (sheet_received u o).told ≡ Ok w
+      → sheet_received u o
+      ≡ record { told = Ok u; plant = record { sludge = added p.sludge v; digester = p.digester; reject = p.reject; figures = p.figures } }
   unfolding step_by ruled receive
   receive-adds w =
       let rule = receive p v in
-      let q : Plant = record { sludge = added p.sludge v; digester = p.digester; reject = p.reject } in
+      let q : Plant = record { sludge = added p.sludge v; digester = p.digester; reject = p.reject; figures = p.figures } in
       decide-case (λ (o : Outcome). (sheet_received u o).told ≡ Ok w → sheet_received u o ≡ record { told = Ok u; plant = q }) p
       (sent.first rule.tests) rule.done
       (λ e h. refl)
       (λ r h. absurd (cc h))
 
 pub sheet-refused : SheetRefusedLaw
-sheet-refused f p s r =
-    sheet-case f p s (λ o. o.told ≡ Err r → o ≡ sheet_refused p r)
-    (λ e h. receive-refused f p (counts_of s) (unseen_of s) r h)
+sheet-refused p s r =
+    sheet-case p s (λ o. o.told ≡ Err r → o ≡ sheet_refused p r)
+    (λ e h. receive-refused p (counts_of s) (unseen_of s) r h)
     (λ q e h. let v : q ≡ r = cc in rw v)
 
 pub sheet-adds : SheetAddsLaw
-sheet-adds f p s u =
-    let q : Plant = record { sludge = added p.sludge (counts_of s); digester = p.digester; reject = p.reject } in
-    sheet-case f p s (λ o. o.told ≡ Ok u → o ≡ record { told = Ok (unseen_of s); plant = q })
-    (λ e h. receive-adds f p (counts_of s) (unseen_of s) u h)
+sheet-adds p s u =
+    let q : Plant = record { sludge = added p.sludge (counts_of s); digester = p.digester; reject = p.reject; figures = p.figures } in
+    sheet-case p s (λ o. o.told ≡ Ok u → o ≡ record { told = Ok (unseen_of s); plant = q })
+    (λ e h. receive-adds p (counts_of s) (unseen_of s) u h)
     (λ r e h. absurd cc)

@@ -3,7 +3,7 @@
 
 use crate::calls::{rust_feed, time_calls, PASSES};
 use crate::in_turn;
-use crate::libraries::Functions;
+use crate::libraries::{Conversion, Functions};
 use crate::sets::{self, Set, RECORDS};
 use second::numbers;
 use second::plant::Plant;
@@ -11,8 +11,13 @@ use second::tables::{Asm1, Digester};
 
 /// One Rust conversion, kept from being drawn into the loop that times it.
 #[inline(never)]
-extern "C" fn rust_asm_to_adm(v: &Asm1, d: &mut Digester, told: &mut [u64; 4]) -> u64 {
-    numbers::asm_to_adm(v, d, told)
+extern "C" fn rust_asm_to_adm(
+    figures: &[u64; 9],
+    v: &Asm1,
+    d: &mut Digester,
+    told: &mut [u64; 4],
+) -> u64 {
+    numbers::asm_to_adm(figures, v, d, told)
 }
 
 /// What a call gives on each input: its refusal, what it tells, and the input behind it.
@@ -88,7 +93,8 @@ fn print_head(rounds: usize) {
 
 /// Times feeds and conversions by both libraries and by Rust, and prints the table.
 pub fn bench(rounds: usize, now: Functions, before: Functions) -> Result<(), String> {
-    let three = [now, before, Functions { feed: rust_feed, asm_to_adm: rust_asm_to_adm }];
+    let asm_to_adm = Conversion::ByFigures(rust_asm_to_adm);
+    let three = [now, before, Functions { feed: rust_feed, asm_to_adm }];
     let sets = [sets::any(), sets::covered(), sets::short()];
     println!("feeds and conversions by both libraries, {PASSES} passes a run,");
     println!("on three sets of {RECORDS} records, the first of them that of the feeds above:");
@@ -106,7 +112,7 @@ pub fn bench(rounds: usize, now: Functions, before: Functions) -> Result<(), Str
         let inputs: Vec<(Asm1, Digester)> = set.drawn().into_iter().map(|v| (v, [7; 26])).collect();
         let calls = three.map(|one| {
             move |(v, d): &mut (Asm1, Digester), _: u64, told: &mut [u64; 4]| {
-                (one.asm_to_adm)(v, d, told)
+                one.asm_to_adm.convert(v, d, told)
             }
         });
         row(name, rounds, &inputs, &set.thousandths, calls)?;

@@ -1,14 +1,16 @@
 //! The benchmark: `sludgeline` against `second` on one long session, with `wc -l`
 //! as the floor, and one feed and one recycle of the C library against those in Rust.
-//! The feeds' records are those from before there was a recycle, so that older figures of a feed
-//! can be held against new ones. The session's fields stand in the order of their columns; before
-//! request E2 they did not, so that its older figures are those of another session.
+//! All of them are of the house set. The feeds' records are those from before there was a recycle,
+//! so that older times of a feed can be held against new ones. The session's fields stand in the
+//! order of their columns; before request E2 they did not, so that its older times are those of
+//! another session.
 //!
 //!     bench [--rounds N] [--megabytes N] [--program PATH] [--before PATH] [--before-library PATH]
 //!
 //! `--before` names an earlier build of `sludgeline`, which is timed on the session in turn with
 //! the others. `--before-library` names an earlier build of the shared library, whose feeds and
-//! conversions are timed in turn with those of this build's and with those in Rust.
+//! conversions are timed in turn with those of this build's and with those in Rust; it may be one
+//! from before request E7, whose records had no figures.
 //!
 //! - `programs`: the programs on the session;
 //! - `calls`: one feed and one recycle, and how a call is timed;
@@ -23,6 +25,7 @@ mod libraries;
 mod programs;
 mod sets;
 
+use second::figures::HOUSE;
 use second::random::Random;
 use second::tables::{asm1, Asm1};
 use second::trials::amounts::{self, Scale};
@@ -33,7 +36,7 @@ use std::process::ExitCode;
 const SEED: u64 = 20;
 
 /// The amounts of a middling works, none near a ceiling.
-const SCALE: Scale = Scale { cod: 50_000_000, ticks: 40_000_000_000, extreme: 0 };
+const SCALE: Scale = Scale { cod: 50_000_000, ticks: 40_000_000_000, extreme: 0, figures: HOUSE };
 
 /// What the command line asks for.
 struct Options {

@@ -17,7 +17,7 @@ fn next_line(random: &mut Random, plant: &Plant) -> Vec<u8> {
         0..=44 => Call::Receive(sludge(random)),
         45..=62 => Call::Feed(k),
         63..=72 => {
-            let (gas, v) = proposals::closing(random, &plant.digester);
+            let (gas, v) = proposals::closing(random, &plant.figures, &plant.digester);
             Call::Settle(gas, v)
         }
         73..=83 => Call::Return(k),

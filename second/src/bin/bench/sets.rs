@@ -21,7 +21,7 @@ pub struct Set {
 fn plant(random: &mut Random) -> Plant {
     let digester = amounts::digester(random, &SCALE);
     let (sludge, reject) = (sludge(random), sludge(random));
-    Plant { sludge, digester, reject }
+    Plant { sludge, digester, reject, figures: SCALE.figures }
 }
 
 /// Records with any nitrate, and any thousandths; about one feed in fifty is refused.

@@ -8,6 +8,7 @@ use crate::{numbers, sheets, shown, writing, Difference, Options};
 use second::balances::Balances;
 use second::plant::Plant;
 use second::random::Random;
+use second::trials::figures;
 use second::trials::Trial;
 use second::{host, lines};
 
@@ -27,19 +28,26 @@ pub struct List {
 }
 
 impl List {
-    /// No calls yet on this record. Of one above a ceiling nothing is told, and it takes no call.
+    /// No calls yet on this record.
     fn on(plant: Plant) -> List {
-        let balances =
-            plant.held().map_or(Balances::default(), |held| Balances::on(held.numbers()));
-        List { plant, balances }
+        List { plant, balances: Balances::on(&plant) }
+    }
+
+    /// No calls yet on a record that is put anew: any, or a fresh one that both make.
+    fn anew(trial: &mut Trial, before: &Plant, tally: &mut Tally) -> Result<List, Difference> {
+        if trial.random.percent(70) {
+            return Ok(List::on(trial.record()));
+        }
+        let (wish, salt) = (figures::wish(&mut trial.random), trial.random.any());
+        numbers::make(&wish, before, salt, tally).map(List::on)
     }
 
     /// Asks that the balances close over what the record holds now.
     fn check(&self) -> Result<(), Difference> {
         match self.plant.held() {
             Ok(held) => self.balances.check(held.numbers()),
-            Err(_) if self.balances == Balances::default() => Ok(()),
-            Err(_) => Err(format!("calls led above a ceiling: {:?}", self.plant.columns())),
+            Err(_) if self.balances == Balances::on(&self.plant) => Ok(()),
+            Err(_) => Err(format!("calls led to what is refused: {:?}", self.plant.columns())),
         }
     }
 }
@@ -135,7 +143,7 @@ fn one_list(random: Random, tally: &mut Tally) -> Result<(), Difference> {
     for _ in 0..1 + trial.random.below(800) {
         if trial.random.percent(8) {
             list.check()?;
-            list = List::on(trial.record());
+            list = List::anew(&mut trial, &list.plant, tally)?;
         }
         match trial.random.below(24) {
             0 => held(&mut trial.random, &list.plant, tally)?,

@@ -5,6 +5,7 @@
 //!            [--sheets PATH]
 //!
 //! - `program`: sessions through the program;
+//! - `wishes`: sets of figures that the program refuses;
 //! - `library`: lists of calls through the library, their lines and held lines;
 //! - `numbers`: the calls by numbers in these lists;
 //! - `sheets`: the laboratory sheets in them, and those of a table;
@@ -19,6 +20,7 @@ mod numbers;
 mod program;
 mod sheets;
 mod tally;
+mod wishes;
 mod writing;
 
 use std::path::PathBuf;

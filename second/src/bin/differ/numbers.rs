@@ -1,6 +1,6 @@
 //! Calls by numbers through the C library. Each is made by both on areas with the same
-//! contents: a record, an ASM1 vector, a digester vector and told numbers, all of them
-//! between guards. A call is handed the areas that it takes; whatever it returns and
+//! contents: a record, figures, an ASM1 vector, a digester vector and told numbers, all of
+//! them between guards. A call is handed the areas that it takes; whatever it returns and
 //! every number of every area has to be the same afterwards.
 
 use crate::guarded::{number_pattern, Guarded};
@@ -8,14 +8,17 @@ use crate::library::List;
 use crate::tally::Tally;
 use crate::Difference;
 use second::closing::Gap;
+use second::figures::Figures;
 use second::plant::{Call, Plant, Record, Refusal};
+use second::random::Random;
 use second::tables::{Asm1, Digester};
-use second::trials::{proposals, Trial};
+use second::trials::{figures, Trial};
 use second::{host, numbers};
 
 /// What a call by numbers can be lent; `number` is its k or its gas.
 struct Lent<'a> {
     record: &'a mut Record,
+    figures: &'a [u64; 9],
     number: u64,
     v: &'a mut Asm1,
     d: &'a mut Digester,
@@ -46,6 +49,7 @@ macro_rules! by_numbers {
 }
 
 // Every call with what it is handed.
+const MAKE: ByNumbers = by_numbers!(jilghvani_make, make, record, figures);
 const RECEIVE: ByNumbers = by_numbers!(jilghvani_receive, receive, record, v);
 const FEED: ByNumbers = by_numbers!(jilghvani_feed, feed, record, number, told4);
 const SETTLE: ByNumbers = by_numbers!(jilghvani_settle, settle, record, number, d);
@@ -53,8 +57,8 @@ const RETURN: ByNumbers = by_numbers!(jilghvani_return, give_back, record, numbe
 const RELEASE: ByNumbers = by_numbers!(jilghvani_release, release, record, number, v);
 const RECYCLE: ByNumbers = by_numbers!(jilghvani_recycle, recycle, record, number);
 const TOTALS: ByNumbers = by_numbers!(jilghvani_totals, totals, record, told4);
-const ASM_TO_ADM: ByNumbers = by_numbers!(jilghvani_asm_to_adm, asm_to_adm, v, d, told4);
-const ADM_TO_ASM: ByNumbers = by_numbers!(jilghvani_adm_to_asm, adm_to_asm, d, v, told1);
+const ASM_TO_ADM: ByNumbers = by_numbers!(jilghvani_asm_to_adm, asm_to_adm, figures, v, d, told4);
+const ADM_TO_ASM: ByNumbers = by_numbers!(jilghvani_adm_to_asm, adm_to_asm, figures, d, v, told1);
 const CLOSE: ByNumbers = by_numbers!(jilghvani_close, close, record, d, told1);
 const GAP: ByNumbers = by_numbers!(jilghvani_gap, gap, record, d, told3);
 
@@ -76,6 +80,7 @@ const FRESH: ByNumbers = ByNumbers {
 #[derive(Debug)]
 struct Input {
     record: Record,
+    figures: [u64; 9],
     number: u64,
     v: Asm1,
     d: Digester,
@@ -84,23 +89,24 @@ struct Input {
 impl Input {
     /// This record, and numbers above every ceiling in all that a call does not take.
     fn on(plant: &Plant) -> Input {
-        Input { record: plant.columns(), number: u64::MAX, v: [u64::MAX; 13], d: [u64::MAX; 26] }
+        let (record, figures) = (plant.columns(), [u64::MAX; 9]);
+        Input { record, figures, number: u64::MAX, v: [u64::MAX; 13], d: [u64::MAX; 26] }
     }
 }
 
-/// The areas between their guards: record, v, d, and told numbers by their count.
+/// The areas between their guards: record, figures, v, d, and told numbers by their count.
 #[derive(Clone)]
-struct Areas([Guarded<u64>; 6]);
+struct Areas([Guarded<u64>; 7]);
 
 /// The areas' names in their order.
-const AREAS: [&str; 6] = ["record", "v", "d", "told[1]", "told[3]", "told[4]"];
+const AREAS: [&str; 7] = ["record", "figures", "v", "d", "told[1]", "told[3]", "told[4]"];
 
 impl Areas {
     /// Areas with these contents; told numbers begin with a pattern.
     fn new(input: &Input, salt: u64) -> Areas {
         let told = [salt; 4];
-        let contents: [&[u64]; 6] =
-            [&input.record, &input.v, &input.d, &told[..1], &told[..3], &told];
+        let Input { record, figures, v, d, .. } = input;
+        let contents: [&[u64]; 7] = [record, figures, v, d, &told[..1], &told[..3], &told];
         Areas(std::array::from_fn(|area| {
             Guarded::new(contents[area], number_pattern(salt.wrapping_add(area as u64)))
         }))
@@ -108,9 +114,10 @@ impl Areas {
 
     /// All of them, to be lent to one call.
     fn lend(&mut self, number: u64) -> Lent<'_> {
-        let [record, v, d, told1, told3, told4] = &mut self.0;
+        let [record, figures, v, d, told1, told3, told4] = &mut self.0;
         Lent {
             record: record.array(),
+            figures: figures.array(),
             number,
             v: v.array(),
             d: d.array(),
@@ -194,7 +201,7 @@ fn kind_of_gap(gap: Result<Gap, Refusal>) -> &'static str {
 /// which has to be accepted. The proposal may ask for another sin in the record's digester.
 fn closing(trial: &mut Trial, plant: &Plant, tally: &mut Tally) -> Result<(), Difference> {
     let mut plant = *plant;
-    let d = proposals::to_close(&mut trial.random, &mut plant.digester);
+    let d = trial.to_close(&mut plant);
     let (input, salt) = (Input { d, ..Input::on(&plant) }, trial.random.any());
     let kind = kind_of_gap(plant.gap(&d));
     by_both(ByNumbers { kind, ..GAP }, &input, salt, tally)?;
@@ -211,16 +218,49 @@ fn closing(trial: &mut Trial, plant: &Plant, tally: &mut Tally) -> Result<(), Di
     }
 }
 
+/// The figures that a conversion by itself is handed: mostly the record's.
+fn handed(random: &mut Random, plant: &Plant) -> [u64; 9] {
+    match random.percent(85) {
+        true => plant.figures.numbers(),
+        false => figures::wish(random).numbers(),
+    }
+}
+
+/// Has a record made by both, on the place of this one; gives it as the library left it.
+pub fn make(
+    figures: &Figures,
+    plant: &Plant,
+    salt: u64,
+    tally: &mut Tally,
+) -> Result<Plant, Difference> {
+    let input = Input { figures: figures.numbers(), ..Input::on(plant) };
+    let (_, mut made) = by_both(MAKE, &input, salt, tally)?;
+    Ok(Plant::from_columns(made.lend(0).record))
+}
+
+/// Converts a vector by itself by both.
+fn conversion(trial: &mut Trial, plant: &Plant, tally: &mut Tally) -> Result<(), Difference> {
+    let (figures, on) = (handed(&mut trial.random, plant), Input::on(plant));
+    let (call, input) = match trial.random.percent(53) {
+        true => (ASM_TO_ADM, Input { figures, v: trial.asm1(plant), ..on }),
+        false => (ADM_TO_ASM, Input { figures, d: trial.digester(plant), ..on }),
+    };
+    by_both(call, &input, trial.random.any(), tally).map(|_| ())
+}
+
 /// Makes one call by numbers, or several that belong together, by both and compares everything.
 pub fn one_call(trial: &mut Trial, list: &mut List, tally: &mut Tally) -> Result<(), Difference> {
     let plant = &list.plant;
-    let (call, input) = match trial.random.below(100) {
+    let call = match trial.random.below(100) {
         0..=59 => return on_record(trial, list, tally),
-        60..=79 => return closing(trial, plant, tally),
-        80..=87 => (ASM_TO_ADM, Input { v: trial.asm1(plant), ..Input::on(plant) }),
-        88..=94 => (ADM_TO_ASM, Input { d: trial.digester(plant), ..Input::on(plant) }),
-        95..=98 => (TOTALS, Input::on(plant)),
-        _ => (FRESH, Input::on(plant)),
+        60..=78 => return closing(trial, plant, tally),
+        79..=93 => return conversion(trial, plant, tally),
+        94 | 95 => {
+            let figures = figures::wish(&mut trial.random);
+            return make(&figures, plant, trial.random.any(), tally).map(|_| ());
+        }
+        96..=98 => TOTALS,
+        _ => FRESH,
     };
-    by_both(call, &input, trial.random.any(), tally).map(|_| ())
+    by_both(call, &Input::on(plant), trial.random.any(), tally).map(|_| ())
 }

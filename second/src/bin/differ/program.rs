@@ -1,15 +1,17 @@
-//! Sessions through the program `sludgeline`: whole, in odd parts, from a file, in step.
+//! Sessions through the program `sludgeline`: whole, in odd parts, from a file, in step; most of
+//! them of the house set, some with other figures behind `--figures`. The sets that it refuses are
+//! in `wishes`.
 
 use crate::tally::{kind_of, refusal_of, Tally};
-use crate::{shown, Difference, Options};
+use crate::{shown, wishes, Difference, Options};
 use second::balances::{numbers_in, Balances};
 use second::plant::Plant;
 use second::random::Random;
-use second::trials::Trial;
+use second::trials::{figures, Trial};
 use second::{lines, session};
 use std::fs::File;
 use std::io::{Read, Write};
-use std::path::PathBuf;
+use std::path::Path;
 use std::process::{Child, ChildStdin, Command, Stdio};
 use std::sync::mpsc::{channel, Receiver};
 use std::thread;
@@ -18,8 +20,11 @@ use std::time::Duration;
 /// How long the program may take to give an answer that it owes.
 const PATIENCE: Duration = Duration::from_secs(20);
 
-/// A session: its bytes, its lines, and the answers the second implementation gives.
+/// A session: the program's words and the record they ask for, its bytes, its lines, and the
+/// answers the second implementation gives.
 struct Session {
+    words: Vec<String>,
+    start: Plant,
     bytes: Vec<u8>,
     lines: Vec<Vec<u8>>,
     answers: Vec<Vec<u8>>,
@@ -46,11 +51,22 @@ fn pad_to_block(random: &mut Random, bytes: &mut Vec<u8>) {
     bytes.push(b'\n');
 }
 
+/// The program's words, and the record that they ask for: of the house set three of four times.
+fn words_and_record(random: &mut Random) -> (Vec<String>, Plant) {
+    if random.percent(75) {
+        return (Vec::new(), Plant::FRESH);
+    }
+    let figures = figures::permitted(random);
+    (figures::words(&figures), Plant::fresh(figures))
+}
+
 /// Makes a session by asking its own record for each next line.
 fn make_session(random: Random) -> Session {
     let mut trial = Trial::new(random);
-    let mut session = Session { bytes: Vec::new(), lines: Vec::new(), answers: Vec::new() };
-    let mut plant = Plant::FRESH;
+    let (words, start) = words_and_record(&mut trial.random);
+    let (bytes, lines, answers) = (Vec::new(), Vec::new(), Vec::new());
+    let mut session = Session { words, start, bytes, lines, answers };
+    let mut plant = start;
     for _ in 0..session_length(&mut trial.random) {
         let before = session.bytes.len();
         if trial.random.below(200) == 0 {
@@ -102,11 +118,14 @@ impl Session {
             tally.add(kind_of(line), refusal_of(answer));
         }
         tally.add("held", 0);
+        if !self.words.is_empty() {
+            tally.add("--figures", 0);
+        }
     }
 
     /// Asks that the balances of its lines and answers close over its held line.
     fn check_balances(&self) -> Result<(), Difference> {
-        let mut balances = Balances::default();
+        let mut balances = Balances::on(&self.start);
         for (line, answer) in self.lines.iter().zip(&self.answers) {
             balances.count_line(line, answer);
         }
@@ -164,7 +183,8 @@ fn check_own(session: &Session, random: &mut Random) -> Result<(), Difference> {
     let greatest = random.one_of(&[10, 2000, 100_000]);
     let mut input = InParts { bytes: &session.bytes, random: random.clone(), greatest };
     let mut printed = Vec::new();
-    session::run(&mut input, &mut printed).map_err(|error| error.to_string())?;
+    let ran = session::run_on(session.start, &mut input, &mut printed);
+    ran.map_err(|error| error.to_string())?;
     session.compare("second's own cutting", &printed)
 }
 
@@ -177,10 +197,11 @@ struct Running {
 }
 
 impl Running {
-    /// Starts the program; its input is a pipe, or this file.
-    fn start(program: &PathBuf, file: Option<File>) -> Result<Running, Difference> {
-        let input = file.map_or_else(Stdio::piped, Stdio::from);
-        let started = Command::new(program).stdin(input).stdout(Stdio::piped()).spawn();
+    /// Starts the program with a session's words; its input is a pipe, or this file.
+    fn start(program: &Path, session: &Session, file: Option<File>) -> Result<Running, Difference> {
+        let mut command = Command::new(program);
+        command.args(&session.words).stdout(Stdio::piped());
+        let started = command.stdin(file.map_or_else(Stdio::piped, Stdio::from)).spawn();
         let mut child = started.map_err(|error| format!("{}: {error}", program.display()))?;
         let mut stdout = child.stdout.take().expect("stdout is a pipe");
         let (sender, output) = channel();
@@ -229,12 +250,12 @@ impl Running {
 
 /// Hands a whole session over in parts no greater than this.
 fn through_pipe(
-    program: &PathBuf,
+    program: &Path,
     session: &Session,
     random: &mut Random,
     greatest: u64,
 ) -> Result<Vec<u8>, Difference> {
-    let mut running = Running::start(program, None)?;
+    let mut running = Running::start(program, session, None)?;
     let mut rest = &session.bytes[..];
     while !rest.is_empty() {
         let size = (1 + random.below(greatest) as usize).min(rest.len());
@@ -245,12 +266,8 @@ fn through_pipe(
 }
 
 /// Hands a session over in step: each part only when all answers owed so far have come.
-fn in_step(
-    program: &PathBuf,
-    session: &Session,
-    random: &mut Random,
-) -> Result<Vec<u8>, Difference> {
-    let mut running = Running::start(program, None)?;
+fn in_step(program: &Path, session: &Session, random: &mut Random) -> Result<Vec<u8>, Difference> {
+    let mut running = Running::start(program, session, None)?;
     let mut handed = 0;
     while handed < session.bytes.len() {
         let size = 1 + random.below(session.bytes.len() as u64 / 10 + 20) as usize;
@@ -271,19 +288,16 @@ fn in_step(
 }
 
 /// Hands a session over as a file.
-fn from_file(program: &PathBuf, session: &Session) -> Result<Vec<u8>, Difference> {
+fn from_file(program: &Path, session: &Session) -> Result<Vec<u8>, Difference> {
     let path = std::env::temp_dir().join(format!("differ-{}.session", std::process::id()));
     let file = std::fs::write(&path, &session.bytes).and_then(|()| File::open(&path));
     let _ = std::fs::remove_file(&path);
-    Running::start(program, Some(file.map_err(|error| error.to_string())?))?.end()
+    let file = file.map_err(|error| error.to_string())?;
+    Running::start(program, session, Some(file))?.end()
 }
 
 /// Runs one session through the program, in one of the ways to hand it over.
-fn one_session(
-    program: &PathBuf,
-    session: &Session,
-    random: &mut Random,
-) -> Result<(), Difference> {
+fn one_session(program: &Path, session: &Session, random: &mut Random) -> Result<(), Difference> {
     let short = session.bytes.len() < 20_000;
     let printed = match random.below(12) {
         0..=2 => from_file(program, session),
@@ -300,6 +314,11 @@ fn one_session(
 pub fn run(options: &Options, tally: &mut Tally) -> Result<(), Difference> {
     for number in 0..options.sessions {
         let mut random = Random::nth(options.seed, 2 * number);
+        if random.percent(5) {
+            wishes::one_refused(&options.program, &mut random, tally)
+                .map_err(|difference| format!("session {number}\n{difference}"))?;
+            continue;
+        }
         let session = make_session(random.clone());
         let result = check_own(&session, &mut random)
             .and_then(|()| session.check_balances())
@@ -307,7 +326,9 @@ pub fn run(options: &Options, tally: &mut Tally) -> Result<(), Difference> {
         if let Err(difference) = result {
             let path = concat!(env!("CARGO_MANIFEST_DIR"), "/target/differ.session");
             let _ = std::fs::write(path, &session.bytes);
-            return Err(format!("session {number} (its bytes are in {path})\n{difference}"));
+            let words = session.words.join(" ");
+            let where_from = format!("its bytes are in {path}, its words are `{words}`");
+            return Err(format!("session {number} ({where_from})\n{difference}"));
         }
         session.tally(tally);
     }

@@ -8,10 +8,10 @@ use std::ops::RangeInclusive;
 
 /// The kinds of answers: lines by the call they ask or preview, or where they are no forms, apart
 /// those that are none for the order of their fields alone and previews inside previews; the held
-/// line; the functions that are called by numbers; sheets that are made for their record and those
-/// of the table stand below the others; a gap that is told stands by where it is; and the functions
-/// that write a call's line, below each the same for its preview.
-const KINDS: [&str; 47] = [
+/// line; the sets behind `--figures`; the functions that are called by numbers; sheets that are
+/// made for their record and those of the table stand below the others; a gap that is told stands
+/// by where it is; and the functions that write a call's line, below each the same for its preview.
+const KINDS: [&str; 49] = [
     "receive",
     "feed",
     "settle",
@@ -28,6 +28,8 @@ const KINDS: [&str; 47] = [
     "preview in a preview",
     "no form",
     "held",
+    "--figures",
+    "jilghvani_make",
     "jilghvani_fresh",
     "jilghvani_receive",
     "jilghvani_sheet",
@@ -114,7 +116,7 @@ pub fn refusal_of(answer: &[u8]) -> usize {
 }
 
 /// The greatest number of a refusal.
-pub const LAST_REFUSAL: usize = 14;
+pub const LAST_REFUSAL: usize = 15;
 
 /// How often each outcome was met; outcome 0 is accepted.
 type Outcomes = [u64; LAST_REFUSAL + 1];

@@ -3,7 +3,6 @@ use mathlib.Core.Path.{◌≡◌}
 use Prim.Native.Nat.{◌-◌}
 use native.Mathlib.Omega.{arith}
 use Rattle.vectors.specs.Columns.{tick_ceiling}
-use Rattle.vectors.specs.Figures.{house}
 use Rattle.vectors.specs.Totals.{digester_cod, digester_tkn}
 use Rattle.closing.specs.Closing.{gaps, gap_between, other_tkn, closing_sin}
 use Rattle.closing.proofs.Proposal.gaps.Goals as goal
@@ -13,6 +12,6 @@ unfolding gap_between
 returns c =
     let a = c.args.self in
     let cod : c.less.result.0 ≡ digester_cod a.new - digester_cod a.old = omega arith in
-    let tkn : c.less-2.result.0 ≡ other_tkn house a.new - digester_tkn house a.old = omega arith in
-    let sin : c.less-4.result.0 ≡ closing_sin house a.old a.new - tick_ceiling = omega arith in
+    let tkn : c.less-2.result.0 ≡ other_tkn a.figures a.new - digester_tkn a.figures a.old = omega arith in
+    let sin : c.less-4.result.0 ≡ closing_sin a.figures a.old a.new - tick_ceiling = omega arith in
     (λ i. gaps (cod i) (tkn i) (sin i))

@@ -5,4 +5,4 @@ use Rattle.host.proofs.laboratory.jilghvani_sheet.Goals as goal
 
 pub returns : goal.returns
 returns c =
-    sheet-called c.plant_at.ensures c.sheet_at.ensures c.receive_sheet-o.ensures c.put_plant.ensures (search rules) (search rules)
+    sheet-called c.plant_at.ensures c.sheet_at.ensures c.receive_sheet-o.ensures.outcome c.put_plant.ensures (search rules) (search rules)

@@ -1,7 +1,6 @@
 -- `lines::blocks::answer_block` meets its contract. Assumes nothing.
 use mathlib.Core.Path.{sym, ◌∙◌}
 use native.Mathlib.Omega.{arith}
-use Rattle.vectors.specs.Figures.{house}
 use Rattle.lines.specs.Blocks.{desk}
 use Rattle.lines.proofs.Laws.Blocks.{ready-true, step-goes}
 use Rattle.lines.proofs.Laws.Run.{block-step, block-done}
@@ -18,14 +17,14 @@ loop-q-preserved c =
     let i = l.invariant in
     let s = c.go_through in
     let k = desk l.q l.line l.out in
-    let goes = step-goes house c.args.block.now k (sym c.is_ready.ensures ∙ c.loop-q-test.true) in (
+    let goes = step-goes c.args.block.now k (sym c.is_ready.ensures ∙ c.loop-q-test.true) in (
       omega arith,
       omega arith,
       λ b. omega (arith, i.1, s.ensures.at_in_bounds),
-      block-step house c.args.block.now k _ (s.ensures.desk_after ∙ goes) ∙ i.3,
+      block-step c.args.block.now k _ (s.ensures.desk_after ∙ goes) ∙ i.3,
     )
 
 pub returns-clause-desk_after : goal.returns-clause-desk_after
 returns-clause-desk_after c =
     let l = c.loop-q in
-    block-done house c.args.block.now (desk l.q l.line l.out) (sym c.is_ready.ensures ∙ c.loop-q-test.false) ∙ l.invariant.3
+    block-done c.args.block.now (desk l.q l.line l.out) (sym c.is_ready.ensures ∙ c.loop-q-test.false) ∙ l.invariant.3

@@ -26,9 +26,10 @@ returns-then-has_room c =
     let h = c.tell_held in
     let room : h.new.self.at ≤ length a.out.now = omega (arith, t.2, g.ensures.at_bound, h.ensures.at_bound) in
     record {
-      desk_after = end-ready _ a.p a.line.now a.out.now fit h.ensures.same_record g.ensures.line_ended g.ensures.answer_gathered h.ensures.held_line_put room;
+      desk_after = end-ready a.p a.line.now a.out.now fit h.ensures.same_record g.ensures.line_ended g.ensures.answer_gathered
+          h.ensures.held_line_put room;
       at_in_bounds = λ b. room;
     }
 
 pub returns-else-has_room-clause-desk_after : goal.returns-else-has_room-clause-desk_after
-returns-else-has_room-clause-desk_after c = end-unfit _ c.args.p c.args.line.now c.args.out.now (sym c.has_room.ensures ∙ c.if-has_room.false)
+returns-else-has_room-clause-desk_after c = end-unfit c.args.p c.args.line.now c.args.out.now (sym c.has_room.ensures ∙ c.if-has_room.false)

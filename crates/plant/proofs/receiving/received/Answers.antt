@@ -2,25 +2,25 @@
 use mathlib.Core.Path.{refl}
 use Rattle.refusals.specs.declared.Refusal.TheVariants.{TankAbove}
 use Rattle.plant.specs.Calls.{receive, ruled}
-use Rattle.plant.proofs.Laws.Decision.{stop, pass, room-lost, room-found}
+use Rattle.plant.proofs.Laws.Decision.{stop-by, pass-by, stop, pass, room-lost, room-found}
 use Rattle.plant.proofs.receiving.received.Goals as goal
+
+pub returns-in_err-usable : goal.returns-in_err-usable
+unfolding receive ruled
+returns-in_err-usable c =
+    stop-by _ _ _ c.in_err-usable.ensures c.from_residual.ensures.1
 
 pub returns-in_err-unless : goal.returns-in_err-unless
 unfolding receive ruled
 returns-in_err-unless c =
-    stop _ _ _ _ c.record_within.ensures c.in_err-unless.ensures.sent c.from_residual.ensures.1
-
-pub returns-in_err-unless-2 : goal.returns-in_err-unless-2
-unfolding receive ruled
-returns-in_err-unless-2 c =
-    pass _ _ _ _ c.record_within.ensures c.in_ok-unless.ensures.passed
-    (stop _ _ _ _ c.is_within.ensures c.in_err-unless-2.ensures.sent c.from_residual-in_err-unless-2.ensures.1)
+    pass-by _ _ _ c.in_ok-usable.ensures
+    (stop _ _ _ _ c.is_within.ensures c.in_err-unless.ensures.sent c.from_residual-in_err-unless.ensures.1)
 
 pub returns-in_err-sludge : goal.returns-in_err-sludge
 unfolding receive ruled
 returns-in_err-sludge c =
-    pass _ _ _ _ c.record_within.ensures c.in_ok-unless.ensures.passed
-    (pass _ _ _ _ c.is_within.ensures c.in_ok-unless-2.ensures.passed
+    pass-by _ _ _ c.in_ok-usable.ensures
+    (pass _ _ _ _ c.is_within.ensures c.in_ok-unless.ensures.passed
     (stop _ _ _ _ refl (room-lost _ TankAbove _ c.sum_within.ensures c.ok_or.ensures.value c.in_err-sludge.was)
     c.from_residual-in_err-sludge.ensures.1))
 
@@ -28,6 +28,6 @@ pub returns : goal.returns
 unfolding receive ruled
 returns c =
     let room = room-found _ TankAbove _ c.sum_within.ensures c.ok_or.ensures.value c.in_ok-sludge.was in
-    pass _ _ _ _ c.record_within.ensures c.in_ok-unless.ensures.passed
-    (pass _ _ _ _ c.is_within.ensures c.in_ok-unless-2.ensures.passed
+    pass-by _ _ _ c.in_ok-usable.ensures
+    (pass _ _ _ _ c.is_within.ensures c.in_ok-unless.ensures.passed
     (pass _ _ _ _ refl room.0 (cc room.1)))

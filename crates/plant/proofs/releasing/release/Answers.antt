@@ -1,10 +1,9 @@
 -- `plant::releasing::release` meets its contract. Assumes nothing.
-use Rattle.vectors.specs.Figures.{house}
 use Rattle.plant.specs.Calls.{releasing}
 use Rattle.plant.proofs.Laws.Calls.{ruled-answered}
 use Rattle.plant.proofs.releasing.release.Goals as goal
 
 pub returns : goal.returns
 returns c =
-    let a = ruled-answered house c.args.plant (releasing c.args.k) c.released.ensures c.outcome_of.ensures in
-    record { outcome = a.0; tells = a.1 }
+    let a = ruled-answered c.args.plant (releasing c.args.k) c.released.ensures c.outcome_of.ensures in
+    record { outcome = a.outcome; tells = a.tells; figures = a.figures }

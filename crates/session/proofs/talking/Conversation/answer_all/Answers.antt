@@ -2,7 +2,6 @@
 use Rattle.std.proofs.Common.{rules, arith, length, take, ◌≡◌, ◌<◌, ap, sym, subst, ◌∙◌}
 use Rattle.std.specs.Io.KnownBytes.{Appends}
 use Rattle.std.proofs.KnownBytes.{Appends-nil, Appends-trans}
-use Rattle.vectors.specs.Figures.{house}
 use Rattle.lines.specs.declared.blocks.Place.{Place}
 use Rattle.lines.specs.Session.{run}
 use Rattle.lines.specs.Blocks.{Desk, desk, state_of, carried}
@@ -18,8 +17,8 @@ loop-self-init g c =
     let block = c.args.block.now in
     let (used, held, at) = c.requires in
     let st = state_of (desk s.place s.line s.out) in
-    let nothing = none_printed house block st s.place.used used in
-    (held, at, carried_none house block st s.place.used used, subst (Appends _ _) (sym nothing) (Appends-nil _))
+    let nothing = none_printed block st s.place.used used in
+    (held, at, carried_none block st s.place.used used, subst (Appends _ _) (sym nothing) (Appends-nil _))
 
 pub loop-self-smaller : goal.loop-self-smaller
 loop-self-smaller g c =
@@ -30,7 +29,7 @@ loop-self-smaller g c =
     let k = desk l.place l.line l.out in
     let block = c.args.block.now in
     let below : l.place.used < length block = search rules in
-    let more = block_more house block k (ready_of block k below held line (omega (arith, at, out))) in
+    let more = block_more block k (ready_of block k below held line (omega (arith, at, out))) in
     let used = ap (λ (x : Desk). x.place.used) c.answer_block-self.ensures.desk_after in
     omega (arith, more, used, ap (λ (x : Place). x.used) c.in_ok-write_answers.ensures.place, below)
 
@@ -45,12 +44,12 @@ loop-self-preserved g c =
     let q = c.write_answers.new.self.place in
     let st = carried c.args.self.now.place c.args.self.now.line in
     let m = desk b.result b.new.line b.new.out in
-    let kept = block_held house block k held in
+    let kept = block_held block k held in
     let same = ap (λ (x : Desk). x.place.held) b.ensures.desk_after in
-    let run_on = block-carried house block st k m b.ensures.desk_after run_so_far in
-    let behind = carried-written house block st b.new.line b.result q w.place run_on in
-    let used = ap (λ (x : Place). (run house st (take x.used block)).printed) w.place in
-    let more = used ∙ block_printed house block st k m b.ensures.desk_after at run_so_far in
+    let run_on = block-carried block st k m b.ensures.desk_after run_so_far in
+    let behind = carried-written block st b.new.line b.result q w.place run_on in
+    let used = ap (λ (x : Place). (run st (take x.used block)).printed) w.place in
+    let more = used ∙ block_printed block st k m b.ensures.desk_after at run_so_far in
     let appended = subst (Appends _ _) (sym more) (Appends-trans _ _ _ _ _ written w.written) in (
       omega (arith, kept, same, ap (λ (x : Place). x.held) w.place),
       ap (λ (x : Place). x.at) w.place,

@@ -2,7 +2,6 @@
 use Rattle.std.proofs.Common.{rules, ap, ◌∙◌, ◌≡◌, subst, take, length}
 use Rattle.std.proofs.lemmas.Result.{on_ok_weaker}
 use Rattle.std.specs.Io.KnownBytes.{Appends}
-use Rattle.vectors.specs.Figures.{house}
 use Rattle.lines.specs.Session.{said}
 use Rattle.lines.specs.Blocks.{Desk, desk}
 use Rattle.lines.proofs.Laws.Run.{end-said}
@@ -17,7 +16,7 @@ returns g c =
     on_ok_weaker c.write_answers.result
     (λ written held.
     let left = ap (λ (x : Desk). take x.place.at x.out) c.end_session-self.ensures.desk_after
-    ∙ end-said house (desk s.place s.line s.out) (end_fits s.place s.line s.out held line c.requires out)
-    ∙ ap (said house) (desk_carried s.place s.line s.out c.requires) in
+    ∙ end-said (desk s.place s.line s.out) (end_fits s.place s.line s.out held line c.requires out)
+    ∙ ap said (desk_carried s.place s.line s.out c.requires) in
     subst (Appends _ _) left written)
     c.write_answers.ensures.written

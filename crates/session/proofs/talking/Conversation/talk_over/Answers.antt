@@ -3,8 +3,6 @@ use Rattle.std.proofs.Common.{arith, List, [], ◌++◌, ℕ, take, refl, ap, �
 use Rattle.std.proofs.lemmas.Result.{on_ok_weaker}
 use Rattle.std.specs.Io.KnownBytes.{Appends}
 use Rattle.std.proofs.KnownBytes.{Appends-nil, Appends-trans, Consumes-nil, Consumes-trans, Consumes-whole}
-use Rattle.vectors.specs.Figures.{house}
-use Rattle.plant.specs.Record.{fresh_plant}
 use Rattle.lines.specs.declared.blocks.Place.{Place}
 use Rattle.lines.specs.Session.{start, printed}
 use Rattle.lines.specs.Blocks.{carried}
@@ -14,8 +12,9 @@ use Rattle.session.proofs.talking.Conversation.talk_over.Goals as goal
 pub loop-init : goal.loop-init
 loop-init g c =
     let line = c.args.self.now.line in
-    let nothing = subst (Appends _ _) (sym (begun_printed house fresh_plant)) (Appends-nil _) in
-    let begun = ap (λ (p : Place). carried p line) c.requires ∙ begun_carried house fresh_plant fresh_plant line refl in
+    let plant = c.args.self.now.place.plant in
+    let nothing = subst (Appends _ _) (sym (begun_printed plant)) (Appends-nil _) in
+    let begun = ap (λ (p : Place). carried p line) c.requires ∙ begun_carried plant plant line refl in
     let held = ap (λ (p : Place). p.held) c.requires in
     (omega (arith, held), ap (λ (p : Place). p.at) c.requires, refl, ([], Consumes-nil _, nothing, begun))
 
@@ -28,11 +27,11 @@ returns-then-n-eq0 g c = record {
       let last = take c.in_ok-n.n c.read_some.new.input in
       let nothing = ap (λ (n : ℕ). xs ++ take n c.read_some.new.input) c.if-n-eq0.true ∙ append-nil xs in
       let Said = λ (ys : List ℕ). Appends (g.O.Write.contents c.args.self.now.to) (g.O.Write.contents c.end.new.self.to)
-      (printed house fresh_plant ys) in
+      (printed c.args.self.now.place.plant ys) in
       on_ok_weaker c.end.result
       (λ said some.
       let in_all = Appends-trans _ _ _ _ _ written (said held) in
-      let whole = subst (Appends _ _) (all_printed house fresh_plant (carried s.place s.line) xs so_far) in_all in
+      let whole = subst (Appends _ _) (all_printed c.args.self.now.place.plant (carried s.place s.line) xs so_far) in_all in
       Consumes-whole _ _ (xs ++ last) Said
       (Consumes-trans _ _ _ _ _ consumed read)
       (end c.if-n-eq0.true (omega (arith, some, input, c.read_some.auto.input)))
@@ -45,7 +44,7 @@ loop-preserved g c =
     let line = c.loop.self.line in
     let (held, at, input, (xs, consumed, written, so_far)) = c.loop.invariant in
     let a = c.in_ok-answer_all.ensures in
-    let st = start fresh_plant in
+    let st = start c.args.self.now.place.plant in
     let block = take c.in_ok-n.n c.read_some.new.input in
     let now = carried c.next_block-self.result line in
     let same = ap (λ (p : Place). carried p line) c.next_block-self.ensures ∙ so_far in
@@ -56,7 +55,7 @@ loop-preserved g c =
       (
         xs ++ block,
         Consumes-trans _ _ _ _ _ consumed c.in_ok-n.ensures.bytes.0,
-        subst (Appends _ _) (printed_after house st now xs block same) more,
-        a.carries_run ∙ run_after house st now xs block same,
+        subst (Appends _ _) (printed_after st now xs block same) more,
+        a.carries_run ∙ run_after st now xs block same,
       ),
     )

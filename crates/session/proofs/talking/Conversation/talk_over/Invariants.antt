@@ -2,8 +2,6 @@
 -- and what is written are those of the run through them.
 use Rattle.std.proofs.Common.{List, ℕ, ◌≡◌, ◌≤◌, length}
 use Rattle.std.specs.Io.KnownBytes.{Appends, Consumes}
-use Rattle.vectors.specs.Figures.{house}
-use Rattle.plant.specs.Record.{fresh_plant}
 use Rattle.lines.specs.Session.{start, core, run}
 use Rattle.lines.specs.Blocks.{carried}
 use Rattle.session.proofs.talking.Conversation.talk_over.Given as goal
@@ -13,5 +11,5 @@ invariant-loop g l =
     (l.self.place.held ≤ 1025) × (l.self.place.at ≡ 0) × (length l.input ≡ length l.initial.input)
     × ((xs : List ℕ)
     × Consumes (g.I.Read.remaining l.initial.from) (g.I.Read.remaining l.from) xs
-    × Appends (g.O.Write.contents l.initial.self.to) (g.O.Write.contents l.self.to) (run house (start fresh_plant) xs).printed
-    × (carried l.self.place l.self.line ≡ core (run house (start fresh_plant) xs)))
+    × Appends (g.O.Write.contents l.initial.self.to) (g.O.Write.contents l.self.to) (run (start l.initial.self.place.plant) xs).printed
+    × (carried l.self.place l.self.line ≡ core (run (start l.initial.self.place.plant) xs)))
