@@ -1,5 +1,5 @@
-// The two conversions of a vector by itself, with any nine figures: each gives the refusal's number, 0 where there is none; a refusal has zeros beside it. Each is
-// one call of interface; they share `tell`, and differ in the call, what goes out and the outcome's type.
+// The two conversions of a vector by itself, with any nine figures: each gives the refusal's number, 0 where there is none; a refusal has
+// zeros beside it. Each is one call of interface; they share `tell`, and differ in the call, what goes out and the outcome's type.
 ghost use Rattle.host.specs.Calls.{AsmToAdmCalled, AdmToAsmCalled};
 
 use crate::told::tell;

@@ -1,13 +1,17 @@
 // Settle replaces the digester's contents by those that the host's solver proposes, where COD, TKN, oxygen and nitrate close.
 ghost use Rattle.std.specs.Prelude.{◌≡◌, ◌&&◌, ◌+◌, eqb};
+ghost use Rattle.std.specs.Result.{result_err};
+ghost use Rattle.refusals.specs.Tests.{first};
+ghost use Rattle.vectors.specs.Columns.{Below, digester_ceilings};
+ghost use Rattle.vectors.specs.Figures.{Permitted};
 ghost use Rattle.vectors.specs.Totals.{digester_oxygen, digester_nitrate};
 ghost use Rattle.plant.specs.Answer.{told};
-ghost use Rattle.plant.specs.Calls.{step, told_for, ruled, settling, settle};
+ghost use Rattle.plant.specs.Calls.{step, told_for, ruled, settling, settled_tests, settle};
 
 use crate::answer::{Answer, Outcome, outcome_of};
 use crate::record::{Plant, usable};
 use refusals::{Refusal, unless};
-use vectors::{Milligrams, Ticks, Unit};
+use vectors::{Figures, Milligrams, Ticks, Unit};
 
 // Refusals 15, 1, 3, 7, 8 and 9.
 pub fn settle(plant: Plant, gas: Milligrams, d: [u64; 26]) -> Outcome
@@ -24,13 +28,7 @@ fn settled(plant: Plant, gas: Milligrams, d: [u64; 26]) -> Result<Outcome, Refus
 {
     usable(plant)?;
     unless(vectors::is_within(d), Refusal::ColumnAbove)?;
-    let old = plant.digester;
-    let cod = vectors::cod(old);
-    unless(cod_closes(cod, vectors::cod(d), gas), Refusal::CodOpen)?;
-    let tkn = vectors::tkn(plant.figures, old);
-    let proposed = vectors::tkn(plant.figures, d);
-    unless(tkn == proposed, Refusal::TknOpen)?;
-    unless(carried_same(old, d), Refusal::CarriedOpen)?;
+    closes(plant.figures, plant.digester, gas, d)?;
     Ok(Outcome {
         answer: Answer::Settled,
         vector: [0; 13],
@@ -39,6 +37,20 @@ fn settled(plant: Plant, gas: Milligrams, d: [u64; 26]) -> Result<Outcome, Refus
             ..plant
         },
     })
+}
+
+// Refusals 7, 8 and 9, of d with its gas in the place of old. Both vectors are plain arrays and the figures any nine numbers, so that their
+// bounds are asked for.
+fn closes(f: Figures, old: [u64; 26], gas: Milligrams, d: [u64; 26]) -> Result<(), Refusal>
+    requires { (Permitted f) × ((Below digester_ceilings old) × (Below digester_ceilings d)) }
+    ensures { result_err result ≡ first (settled_tests f old gas d) }
+{
+    let cod = vectors::cod(old);
+    unless(cod_closes(cod, vectors::cod(d), gas), Refusal::CodOpen)?;
+    let tkn = vectors::tkn(f, old);
+    let proposed = vectors::tkn(f, d);
+    unless(tkn == proposed, Refusal::TknOpen)?;
+    unless(carried_same(old, d), Refusal::CarriedOpen)
 }
 
 // Whether old = new + gas, over whole numbers.

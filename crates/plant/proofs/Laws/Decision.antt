@@ -1,9 +1,10 @@
 -- Laws of refusals in their order. Assumes nothing.
 --
+--   stop-all, pass-all            a refusal, or none, is the decision
 --   stop-by, pass-by              a refusal sends away; where there is none, the decision is left to the next
 --   stop, pass                    the same of a test: one that fails sends away
 --   room-lost, room-found         the sum of two vectors, or its refusal, tells of the test
---   last-is                       what the last test gives
+--   stop-first, pass-first, last-is   the same where tests give a refusal or none, and what the last one gives
 --   flag                          a test of what a function gave is a test of what it stands for
 --   decide-case                   what holds of the outcome where no refusal applies, and of every refusal, holds of the decision
 --   passed-by, passed, draw-passed   what no refusal tells of the tests
@@ -29,6 +30,12 @@ use Rattle.plant.specs.Answer.{refused, outcome_of}
 -- ---- the way to a decision: x is what the code gives, and t its test
 
 module _ {A : Type 0} (o : A) where
+  pub stop-all : (t : Option Refusal) {e : Refusal} {x : Result A Refusal} → Some e ≡ t → IsErrAnd x (λ y. y ≡ e) → x ≡ decide t o
+  stop-all t {x = x} g i = rw (sym g) (err-is x i refl)
+
+  pub pass-all : (t : Option Refusal) → None ≡ t → Ok o ≡ decide t o
+  pass-all t g = rw (sym g)
+
   pub stop-by : (t : Option Refusal) (ts : List (Option Refusal)) {e : Refusal} {x : Result A Refusal}
       → Some e ≡ t → IsErrAnd x (λ y. y ≡ e) → x ≡ decide (first (t ∷ ts)) o
   stop-by t ts {x = x} g i = rw (sym g) (err-is x i refl)
@@ -66,6 +73,17 @@ module _ {A : Type 0} (s : A) (r : Refusal) where
 -- a flag that a function gave, and the test of it
 pub flag : {b r v : Bool} → r ≡ b → r ≡ v → b ≡ v
 flag e t = sym e ∙ t
+
+-- ---- the way to a refusal, or to none
+
+module _ (x : Result Unit Refusal) where
+  pub stop-first : (b : Bool) (r : Refusal) (ts : List (Option Refusal)) {t : Bool} {e : Refusal}
+      → t ≡ b → (t ≡ false) × (e ≡ r) → IsErrAnd x (λ y. y ≡ e) → result_err x ≡ first (unless b r ∷ ts)
+  stop-first b r ts {e = e} w f i = rw (sym w ∙ f.0) (ap (λ (y : Result Unit Refusal). result_err y) (err-is x i f.1))
+
+  pub pass-first : (b : Bool) (r : Refusal) (ts : List (Option Refusal)) {t : Bool}
+      → t ≡ b → t ≡ true → result_err x ≡ first ts → result_err x ≡ first (unless b r ∷ ts)
+  pass-first b r ts w f e = rw (sym w ∙ f) e
 
 -- what the last test gives
 pub last-is : (x : Result Unit Refusal) (b : Bool) (r : Refusal) {t : Bool} → t ≡ b → OnOk x (t ≡ true)
