@@ -8,8 +8,8 @@ use std::io::writer;
 use std::rt::{Clock, Env};
 use vectors::Figures;
 
-// With no argument a conversation on a record of the house set, with --figures and nine numbers on a record of these. Of one word, --help and
-// --version are known. A read or a write that fails ends it, and is told on standard error.
+// With no argument a conversation on a record of the house set, with --figures and nine numbers on a record of these. Of one word, --help
+// and --version are known. A read or a write that fails ends it, and is told on standard error.
 pub fn serve<R: Env + Input + Print + Eprint + Alloc + Clock>(rt: &R) {
     if let Err(f) = serve_word(rt) {
         tell(rt, f);

@@ -17,7 +17,8 @@ fn main() {
     }
 }
 
-// Lines of each kind, held lines, both on a record whose figures are no permitted set, the longest answer, and each kind of answer handed back.
+// Lines of each kind, held lines, both on a record whose figures are no permitted set too, the longest answer, and each kind of answer
+// handed back.
 fn all(buf: &mut [u8]) {
     for s in LINES {
         line(buf, s);

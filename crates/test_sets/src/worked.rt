@@ -1,8 +1,9 @@
 // Plants worked by hand: a load is received, fed whole and returned, and what is in the tanks is written behind each call.
 //
-// The dairy's: saa = min(100, floor(10000 / 1120)) = 8. P = 10000 - 8960 + 30000 + 850 x 20 + 640 x 20 = 60840. xi = floor(7350 x 20 / 10000)
-// = 14, q = 220 x 14 = 3080, P' = 57760. R = 200 + 20 + 20 - 14 = 226, xc = floor(57760 / 410) = 140, xch = floor(1200 x 86 / 7000) = 14,
-// xli = 72, sin = 1000 + 57760 - 57400 = 1360. On return xnd = 410 x 140 + 220 x 14 - 640 x 14 = 51520, snd = 1120 x 8, snh = 1360.
+// The dairy's: saa = min(100, floor(10000 / 1120)) = 8. P = 10000 - 8960 + 30000 + 850 x 20 + 640 x 20 = 60840.
+// xi = floor(7350 x 20 / 10000) = 14, q = 220 x 14 = 3080, P' = 57760. R = 200 + 20 + 20 - 14 = 226, xc = floor(57760 / 410) = 140,
+// xch = floor(1200 x 86 / 7000) = 14, xli = 72, sin = 1000 + 57760 - 57400 = 1360. On return xnd = 410 x 140 + 220 x 14 - 640 x 14
+// = 51520, snd = 1120 x 8, snh = 1360.
 //
 // The greatest: all COD columns but xp hold 10^12 and nitrogen none. P = 10000 x 2 x 10^12 + 10000 x 10^12 = 3 x 10^16, xi = 10^12,
 // q = 2 x 10^16, P' = 10^16. R = 3 x 10^12, xc = 10^12, xch = xli = 10^12, sin = 0: each column is at its ceiling. Of three tenths of it,
@@ -52,7 +53,7 @@ const SMALL: [(usize, u64); 10] = [
     (XND, 9),
 ];
 
-// Each load with its set, and with the house set.
+// Each load with its set.
 pub fn plants() {
     plant(b"dairy", sets::DAIRY, &LOAD, 1000);
     plant(b"greatest", sets::GREATEST, &FULL, 1000);
