@@ -1,35 +1,34 @@
--- The balances over a list of calls: document 01, "Demand 3", and document 02, E1 (a recycle is neither received nor released), E3 (a
--- preview counts for nothing), E6 (a sheet counts by its counts) and E7 (the figures are the record's own).
+-- The balances over a list of calls: demand 3 of document 01, "The plant record and its five calls", and document 02, E1 (a recycle is
+-- neither received nor released), E3 (a preview counts for nothing), E6 (a sheet counts by its counts) and E7 (the figures are the
+-- record's own).
 --
---   Entry        what stands in a list: a call, a preview of one, or a laboratory sheet
---   entry        an entry by whether it is a preview
---   after        the record after a list, each entry on the record that the one before returned
---   sum_over     a number that each call and its outcome give, added up over the list; previews are skipped
---   sheet_adds   what a sheet adds to it: a sheet is a receive of its counts, one with a bad column nothing
---   accepted     an answer that is no refusal
---   counts       what a call counts for: a receive takes its vector in, a release hands one out, a settle
---                                           lets gas go; of the others, recycles among them, only what they tell is counted
---   received, released                      a total of the vectors handed to accepted receives and of the counts of accepted sheets, and
---                                           of the vectors handed out by accepted releases
+--   Entry                                    what stands in a list: a call, a preview of one, or a laboratory sheet
+--   entry                                    an entry by whether it is a preview
+--   after                                    the record after a list, each entry on the record that the one before returned
+--   sum_over                                 a number that each call and its outcome give, added up over the list; previews are skipped
+--   sheet_adds                               what a sheet adds to it: a sheet is a receive of its counts, one with a bad column nothing
+--   accepted                                 an answer that is no refusal
+--   counts                                   what a call counts for: a receive takes its vector in, a release hands one out, a settle lets
+--                                            gas go; of the others, recycles among them, only what they tell is counted
+--   received, released                       a total of the vectors handed to accepted receives and of the counts of accepted sheets, and
+--                                            of the vectors handed out by accepted releases
 --   burnt, oxygen_reduced, nitrate_reduced   what accepted feeds tell
 --   gas                                      the gas COD handed to accepted settles
 --   stripped                                 what accepted returns tell
 --   without_previews, SkipLaw                a list without its previews: the same record is after it, and every sum is the same.
---                                           proofs/Laws/Balance.antt proves it: previews-skipped
---   sheets_as_calls, SheetLaw                 a list with its sheets as receives of their counts, likewise.
---                                           proofs/Laws/Balance.antt proves it: sheets-as-calls
---   StayLaw                                 after a list the record has the figures that it was made with.
---                                           proofs/Laws/Balance.antt proves it: figures-stay
---   RecycleLaw                              a recycle, refused or not, leaves what is in the three tanks together as it was.
---                                           proofs/Laws/Balance.antt proves it: recycle-holds
---   Balanced, BalanceLaw                    the four balances, for every list of calls, previews and sheets on a fresh record of any
---                                           permitted set of figures; of a set that is not permitted too, where each call is refused
---                                           and each sum is zero.
---                                           proofs/Laws/Balance.antt proves it: balance
+--                                            proofs/Laws/Balance.antt proves it: previews-skipped
+--   sheets_as_calls, SheetLaw                a list with its sheets as receives of their counts, likewise: sheets-as-calls
+--   StayLaw                                  after a list the record has the figures that it was made with: figures-stay
+--   RecycleLaw                               a recycle, refused or not, leaves what is in the three tanks together as it was: recycle-holds
+--   Moved, MovesLaw                          and so each column of sludge and reject together, and the digester; to every sum it adds
+--                                            nothing: recycle-moves
+--   Balanced, BalanceLaw                     the four balances, for every list of calls, previews and sheets on a fresh record of any
+--                                            permitted set of figures; of a set that is not permitted too, where each call is refused and
+--                                            each sum is zero: balance
 --
 -- A list holds everything that is handed to its calls, previews and sheets: any k, any gas, any vector and any entries of any length,
 -- honest or not. Its sums are whole numbers without a ceiling.
-use Rattle.std.specs.Prelude.{Bool, true, false, cond, List, [], ◌∷◌, ◌≡◌, ℕ, ◌+◌, Float, is_none}
+use Rattle.std.specs.Prelude.{Bool, true, false, cond, List, [], ◌∷◌, ◌≡◌, ℕ, ◌+◌, Float, is_none, get_or}
 use Rattle.vectors.specs.declared.figures.Figures.{Figures}
 use Rattle.vectors.specs.Totals.{asm1_cod, asm1_tkn, asm1_oxygen, asm1_nitrate}
 use Rattle.plant.specs.declared.record.Plant.{Plant}
@@ -39,7 +38,7 @@ use Rattle.plant.specs.declared.answer.Call.TheVariants as call
 use Rattle.plant.specs.declared.answer.Request.{Request}
 use Rattle.plant.specs.declared.answer.Outcome.{Outcome}
 use Rattle.plant.specs.Record.{fresh_plant}
-use Rattle.plant.specs.Answer.{refused_with, told}
+use Rattle.plant.specs.Answer.{refused_with, nothing, told}
 use Rattle.plant.specs.Calls.{step, preview_of, receiving, recycling}
 use Rattle.plant.specs.Tanks.{cod_in, tkn_in, oxygen_in, nitrate_in}
 use Rattle.sheets.specs.declared.finding.Finding.{Finding}
@@ -157,6 +156,18 @@ pub record SameHeld (p q : Plant) : Type 0 where
 
 abbrev pub RecycleLaw : Type 0
 RecycleLaw = (p : Plant) (k : ℕ) → SameHeld p (step p (recycling k)).plant
+
+-- the request r on p, with the outcome o
+pub record Moved (p : Plant) (r : Request) (o : Outcome) : Type 0 where
+  pub columns : (i : ℕ) → get_or p.sludge i 0 + get_or p.reject i 0 ≡ get_or o.plant.sludge i 0 + get_or o.plant.reject i 0
+  pub digester : p.digester ≡ o.plant.digester
+  pub received : (total : List ℕ → ℕ) → received_by total r o ≡ 0
+  pub released : (total : List ℕ → ℕ) → released_by total r o ≡ 0
+  pub gas : gas_by r o ≡ 0
+  pub silent : told o.answer ≡ nothing (told o.answer).number
+
+abbrev pub MovesLaw : Type 0
+MovesLaw = (p : Plant) (k : ℕ) → Moved p (recycling k) (step p (recycling k))
 
 -- document 02, E3: previews may stand anywhere in a list
 abbrev pub without_previews : List Entry → List Entry

@@ -1,3 +1,9 @@
-// The list theorem: over any list of calls, previews and sheets, COD, TKN, oxygen and nitrate balance.
-// Definitions (specs/) and proofs (proofs/), no code.
+// The list theorem: over any list of calls, previews and sheets, COD, TKN, oxygen and nitrate balance. The calls are those of the crates
+// below, by the definitions that their contracts cite.
+//
+//   claims   the balances, and what stands beside them
 #![tactic(auto)]
+
+mod claims;
+
+pub use claims::laws_hold;

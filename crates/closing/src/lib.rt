@@ -2,11 +2,14 @@
 // Both leave the record as it is. ../specs/Closing.antt has the theorem that settle accepts what close gives.
 #![tactic(auto)]
 
+mod claims;
+
 ghost use Rattle.std.specs.Prelude.{◌≡◌};
 ghost use Rattle.vectors.specs.Columns.{Below, digester_ceilings};
 ghost use Rattle.vectors.specs.Figures.{Permitted};
 ghost use Rattle.closing.specs.Closing.{replaced, other_tkn, gap_between, gap_of, close_taken, close_of};
 
+pub use claims::laws_hold;
 use columns::Digester;
 use plant::Plant;
 use refusals::{Refusal, unless};

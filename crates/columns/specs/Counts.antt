@@ -1,4 +1,5 @@
--- Vectors of the code: document 01, "Units, columns and the house set". The definitions are over whole numbers; where one takes a struct of the code, these take the numbers out.
+-- Vectors of the code: document 01, "Units, columns and the house set". The definitions are over whole numbers; where one takes a struct
+-- of the code, these take the numbers out.
 --
 --   asm1_counts, digester_counts   the numbers of a vector whose columns are in their units
 use Rattle.vectors.specs.Columns.{Asm1, Digester}

@@ -1,8 +1,8 @@
 -- Calls and the lines that are written for them. proofs/Laws/Examples.antt proves the table by computation.
 --
---   Row, ◌writes◌, ◌previews◌  a call and its line, and a preview and its line
---   examples                   the table
---   ExamplesHold               the text of each row is its line
+--   Row, ◌writes◌, ◌previews◌   a call and its line, and a preview and its line
+--   examples                    the table
+--   ExamplesHold                the text of each row is its line
 use Rattle.std.specs.Prelude.{Bool, true, false, List, [], ◌∷◌, map, ◌≡◌, ℕ}
 use Prim.Native.String.{String}
 use Rattle.vectors.specs.Units.{milligrams}

@@ -8,11 +8,11 @@
 --   TextReadLaw                            reading the text of a call yields the call. proofs/Laws/Line.antt proves it: entry-read
 --   TextGivesLaw                           so the line gives what the call gives, on every record: entry-gives
 --   names_no_zero                          no column that a line names is given zero, as a test
---   TextOnlyLaw                            a line that is read as the call and names no zero column is its text.
---                                       proofs/Laws/Only.antt proves it: entry-only
---   TextNoZeroLaw                       the text of a call names none. proofs/Laws/Line.antt proves it: entry-no-zero
---   TextLengthLaw                       it has at most 1,024 bytes: entry-length
---   TextLineLaw                         no newline stands in it: entry-one
+--   TextOnlyLaw                            a line that is read as the call and names no zero column is its text. proofs/Laws/Only.antt
+--                                          proves it: entry-only
+--   TextNoZeroLaw                          the text of a call names none. proofs/Laws/Line.antt proves it: entry-no-zero
+--   TextLengthLaw                          it has at most 1,024 bytes: entry-length
+--   TextLineLaw                            no newline stands in it: entry-one
 use Rattle.std.specs.Prelude.{Bool, true, false, cond, not, ◌&&◌, Option, List, [], ◌∷◌, ◌++◌, ◌≡◌, ℕ, ◌≤◌, eqb, length, get_or, replicate}
 use Rattle.plant.specs.declared.record.Plant.{Plant}
 use Rattle.plant.specs.declared.answer.Call.{Call}

@@ -1,5 +1,5 @@
 // A call's line and its newline. They stand first in the lent buffer, and the bytes behind them keep their values.
-ghost use Rattle.std.specs.Prelude.{false, ◌++◌, ◌≡◌, ◌+◌, ◌*◌, ◌≤◌, length};
+ghost use Rattle.std.specs.Prelude.{false, ◌++◌, ◌≡◌, ◌+◌, ◌*◌, ◌≤◌, length, drop};
 ghost use Rattle.reading.specs.Text.{ascii};
 ghost use Rattle.reading.specs.Names.{unpadded_all};
 ghost use Rattle.writing.specs.Page.{HasRoom, Wrote};
@@ -10,7 +10,7 @@ ghost use Rattle.composing.specs.Written.{written_text, LineWritten};
 use plant::{Call, Request};
 use reading::{ASM1_NAMES, Asked, DIGESTER_NAMES};
 use refusals::Refusal;
-use writing::{Page, filled_part};
+use writing::{Page, split_filled};
 
 // Writes the line of a call with the vector that it takes, or of a preview of it, and a newline, and tells how many bytes there are; under
 // a refusal the buffer is left as it is. Test, page, writer stand here as in writing's `write_answer`, for the reason given there.
@@ -26,14 +26,14 @@ pub fn write_line(buf: &mut [u8], asked: Asked) -> Result<usize, Refusal>
     Ok(page.at)
 }
 
-// The same, and hands back the part of the buffer that the line and its newline fill, shared. The buffer goes into the result, so that
-// this contract says nothing of the bytes behind the part; `write_line`, which it calls, settles them. It and
-// `filled_answer` of writing share `filled_part`, and no more.
-pub fn filled_line<'a>(buf: &'a mut [u8], asked: Asked) -> &'a [u8]
-    ensures { (result.now ≡ written_text (length buf.old) asked.preview asked.request) × (result.ref_ptr ≡ buf.entry.ref_ptr) }
+// The same, and hands back the part of the buffer that the line and its newline fill, shared, and the bytes behind it, as writing's
+// `filled_answer` does.
+pub fn filled_line<'a>(buf: &'a mut [u8], asked: Asked) -> (&'a [u8], &'a [u8])
+    ensures part { (result.0.now ≡ written_text (length buf.old) asked.preview asked.request) × (result.0.ref_ptr ≡ buf.entry.ref_ptr) }
+    ensures behind { result.1.now ≡ drop (length (written_text (length buf.old) asked.preview asked.request)) buf.old }
 {
     let n = write_line(buf, asked).unwrap_or(0);
-    filled_part(buf, n)
+    split_filled(buf, n)
 }
 
 // A call, or a preview of it.

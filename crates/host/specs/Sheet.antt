@@ -1,7 +1,7 @@
 -- A laboratory sheet as a host lends it: thirteen kinds and thirteen values (document 02, E6).
 --
 --   finding_of   an entry: 0 is a measured value, 1 a result below a limit, 2 not sampled; any other kind stands for no number, which
---               is refused with 13. The value beside kind 2 is nothing to it
+--                is refused with 13. The value beside kind 2 is nothing to it
 --   sheet_at     the thirteen entries
 use Rattle.std.specs.Prelude.{cond, List, [], ◌∷◌, ℕ, zero, suc, eqb, Float, get_or}
 use Rattle.std.specs.Float.{nan}

@@ -8,10 +8,12 @@
 //   conversions  the two conversions of a vector by itself
 //   proposals    a proposal for settle: what closes it, and how far off it is
 //   record       61 numbers and the plant record that they stand for
-//   request      the requests of the calls by numbers
+//   request      the requests of the two calls that take a vector
 //   told         the numbers that a call tells, or its refusal
+//   claims       the laws of the definitions
 #![tactic(auto)]
 
+mod claims;
 mod composed;
 mod conversions;
 mod laboratory;
@@ -22,6 +24,7 @@ mod request;
 mod text;
 mod told;
 
+pub use claims::laws_hold;
 pub use composed::{
     jilghvani_write_feed, jilghvani_write_receive, jilghvani_write_recycle,
     jilghvani_write_release, jilghvani_write_return, jilghvani_write_settle,

@@ -12,7 +12,8 @@ use Rattle.interface.specs.declared.feed.Fed.{Fed}
 use Rattle.interface.specs.declared.returning.Returned.{Returned}
 use Rattle.vectors.specs.Columns.{Asm1}
 use Rattle.vectors.specs.Figures.{Permitted}
-use Rattle.vectors.specs.Totals.{asm1_cod, asm1_tkn, asm1_oxygen, asm1_nitrate, digester_cod, digester_tkn, digester_oxygen, digester_nitrate}
+use Rattle.vectors.specs.Totals.{asm1_cod, asm1_tkn, asm1_oxygen, asm1_nitrate, digester_cod, digester_tkn, digester_oxygen}
+use Rattle.vectors.specs.Totals.{digester_nitrate}
 use Rattle.interface.specs.Feed.{nitrate_rule, stage1, feed_of}
 use Rattle.interface.specs.Return.{return_of}
 

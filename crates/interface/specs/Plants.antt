@@ -4,7 +4,8 @@
 --   asm1_named, digester_named   the columns that have these values, all others zero
 --   fed, returned                what an accepted conversion tells, with the columns that are not zero
 --   Row, plants                  the table
---   Holds, PlantsHold            the conversion of the drawn vector is the outcome of the row; of every row. proofs/Laws/Plants.antt proves it.
+--   Holds, PlantsHold            the conversion of the drawn vector is the outcome of the row; of every row. proofs/Laws/Plants.antt
+--                                proves it: plants-hold
 use Rattle.std.specs.Prelude.{cond, Result, Ok, Err, List, [], ◌∷◌, map, ◌≡◌, ℕ}
 use Prim.Native.String.{String}
 use lib.Text.{eqt}
@@ -62,7 +63,8 @@ plants =
     -- a: D, o, r by stage1; ssu by stage2
     feeding ("ss" is 40000 ∷ "so" is 5000 ∷ "sno" is 100_000_000 ∷ []) (fed 33600 5000 100_000_000 0 ("ssu" is 6400 ∷ []))
     -- b, the session's feed: D, o, r by stage1; xch, xli by stage5
-    ∷ feeding ("ss" is 10000 ∷ "xs" is 30000 ∷ "so" is 5000 ∷ "sno" is 100_000_000 ∷ []) (fed 33600 5000 100_000_000 0 ("xch" is 2844 ∷ "xli" is 3556 ∷ []))
+    ∷ feeding ("ss" is 10000 ∷ "xs" is 30000 ∷ "so" is 5000 ∷ "sno" is 100_000_000 ∷ [])
+    (fed 33600 5000 100_000_000 0 ("xch" is 2844 ∷ "xli" is 3556 ∷ []))
     -- c: saa, ssu by stage2; sin, the leftover of snd / naa, by stage3 and stage5
     ∷ feeding ("ss" is 100 ∷ "snd" is 10000 ∷ []) (fed 0 0 0 0 ("saa" is 10 ∷ "ssu" is 90 ∷ "sin" is 200 ∷ []))
     -- d: saa by stage2; sin by stage3 and stage5

@@ -7,7 +7,8 @@
 --   returned_vector              the ASM1 vector
 --   return_digester, return_of   the whole conversion: refusal 5 (ReturnShort), or the vector and the COD stripped
 --
--- Where document 01 parts from 004: ixe × xi is taken from xnd, then snd, then snh, and a shortage refuses the return, where 004 lets xnd go below zero.
+-- Where document 01 parts from 004: ixe × xi is taken from xnd, then snd, then snh, and a shortage refuses the return, where 004 lets xnd
+-- go below zero.
 use Rattle.std.specs.Prelude.{Bool, cond, Result, Ok, Err, List, ℕ, ◌+◌, ◌-◌, ◌*◌, ltb}
 use Rattle.refusals.specs.declared.Refusal.{Refusal}
 use Rattle.refusals.specs.declared.Refusal.TheVariants.{ReturnShort}

@@ -21,8 +21,8 @@ pub struct Fed {
     pub vector: [u64; 26],
 }
 
-// The feed conversion. Refusals 4 and 6. It asks for a permitted set and a vector within its ceilings, which their types do not say (figures.rt
-// and vector.rt of vectors).
+// The feed conversion. Refusals 4 and 6. It asks for a permitted set and a vector within its ceilings, which their types do not say
+// (figures.rt and vector.rt of vectors).
 pub fn feed_of(f: Figures, c: [u64; 13]) -> Result<Fed, Refusal>
     requires { (Permitted f) × (Below asm1_ceilings c) }
     ensures { result ≡ feed_of f c }

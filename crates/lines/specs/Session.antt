@@ -1,21 +1,22 @@
 -- A session: document 01, "Lines in brackets", and what the program sludgeline prints.
 --
---   cut, cut_lines                an input cut into lines
---   given_by, answer_of, after_line what a line gives on a record: its outcome, its answer with a newline, the record
---   answers, after_lines   the same for a list of lines, each on the record that the one before left
---   held_line_text         the held line with its newline
---   transcript, printed    all that is printed for a list of lines, and for an input, on a record
---   entries                the calls and previews that a list of lines asks
---   State, run             the same byte by byte, with at most 1,025 bytes of the line that is not ended
---   end_text               behind the last byte: the answer to a line that lacks its newline, then the held line
---   joined, run_blocks     an input that falls into blocks, and its blocks one behind the other
---   PrintedLaw             however an input falls into blocks, the answers on the way and then the end are what is printed for it.
---                                proofs/Laws/Session.antt proves it: printed-whole
---   written, WrittenLaw          the same where the answers are written behind each block: proofs/Laws/Carry.antt, written-whole
---   PreviewGiven, PreviewLaw     (preview FORM) prints what FORM would, and leaves the record: proofs/Laws/Preview.antt, preview-given
---   FileLaw                      for any input on a fresh record of any permitted set, its accepted lines' sums balance against its held
---                                line.
---                                proofs/Laws/File.antt proves it: file
+--   cut, cut_lines                    an input cut into lines
+--   OneLineLaw                        an input that begins with a text without a newline, and a newline, is cut there:
+--                                     proofs/Laws/Session.antt, one-cut
+--   given_by, answer_of, after_line   what a line gives on a record: its outcome, its answer with a newline, the record
+--   answers, after_lines              the same for a list of lines, each on the record that the one before left
+--   held_line_text                    the held line with its newline
+--   transcript, printed               all that is printed for a list of lines, and for an input, on a record
+--   entries                           the calls and previews that a list of lines asks
+--   State, run                        the same byte by byte, with at most 1,025 bytes of the line that is not ended
+--   end_text                          behind the last byte: the answer to a line that lacks its newline, then the held line
+--   joined, run_blocks                an input that falls into blocks, and its blocks one behind the other
+--   PrintedLaw                        however an input falls into blocks, the answers on the way and then the end are what is printed for
+--                                     it. proofs/Laws/Session.antt proves it: printed-whole
+--   written, WrittenLaw               the same where the answers are written behind each block: proofs/Laws/Carry.antt, written-whole
+--   PreviewGiven, PreviewLaw          (preview FORM) prints what FORM would, and leaves the record: proofs/Laws/Preview.antt, preview-given
+--   FileLaw                           for any input on a fresh record of any permitted set, its accepted lines' sums balance against its
+--                                     held line: proofs/Laws/File.antt, file
 --
 -- Everything goes by the record's own figures; in FileLaw f is the set that the record was made with.
 use Rattle.std.specs.Prelude.{true, false, cond, Option, Some, None, List, [], ◌∷◌, ◌++◌, ◌≡◌, ℕ, ◌+◌, ◌≤◌, eqb, length, take}
@@ -33,7 +34,7 @@ use Rattle.holding.specs.declared.holding.HeldTotals.{HeldTotals}
 use Rattle.holding.specs.Held.{held_of}
 use Rattle.balances.specs.Balance.{Entry, entry, received, released, burnt, gas, stripped, oxygen_reduced, nitrate_reduced}
 use Rattle.reading.specs.declared.form.Asked.{Asked}
-use Rattle.reading.specs.Text.{newline}
+use Rattle.reading.specs.Text.{newline, one_line}
 use Rattle.reading.specs.Line.{is_previewed, read_line, preview_text}
 use Rattle.writing.specs.Answer.{held_text}
 use Rattle.lines.specs.Asking.{form_outcome, outcome_text}
@@ -146,6 +147,10 @@ said st = st.printed ++ end_text st.plant st.held
 unfoldable pub written : State → List (List ℕ) → List ℕ
 written st [] = said st
 written st (b ∷ bs) = (run st b).printed ++ written (core (run st b)) bs
+
+-- so an answer, a held line and the line of a call, which hold none, are one line each
+abbrev pub OneLineLaw : Type 0
+OneLineLaw = (l s : List ℕ) → one_line l ≡ true → cut_lines (l ++ (newline ∷ s)) ≡ l ∷ cut_lines s
 
 abbrev pub PrintedLaw : Type 0
 PrintedLaw = (p : Plant) (bs : List (List ℕ)) → said (run_blocks (start p) bs) ≡ printed p (joined bs)

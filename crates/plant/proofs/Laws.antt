@@ -1,5 +1,6 @@
--- Laws of the plant record: of its tests (Record), of refusals (Decision), of the calls (Calls) and of ceilings (Within).
+-- Laws of the plant record: of its tests (Record), of refusals (Decision), of the calls (Calls), of ceilings (Within) and of == (Same).
 pub mod Record
 pub mod Decision
 pub mod Calls
 pub mod Within
+pub mod Same

@@ -1,10 +1,10 @@
 -- Answers: document 01, "The plant record and its five calls" (what each call tells) and "What the link sends away", and document 02, E1.
 --
---   Answer, Outcome, Told the enum and the structs of the code
---   told                  the refusal's number of document 01, or 0, and the values told, for each case of the enum: a refusal tells zeros
---   refused_with          the refusal of an answer, where it is one
---   refused               the outcome of a refusal: the record that was handed in, and zeros
---   outcome_of            the outcome of a call: its own, or that of the refusal that sends it away
+--   Answer, Outcome, Told   the enum and the structs of the code
+--   told                    the refusal's number of document 01, or 0, and the values told, by the enum's cases: a refusal tells zeros
+--   refused_with            the refusal of an answer, where it is one
+--   refused                 the outcome of a refusal: the record that was handed in, and zeros
+--   outcome_of              the outcome of a call: its own, or that of the refusal that sends it away
 use Rattle.std.specs.Prelude.{Option, None, Some, Result, Ok, Err, ℕ}
 use Rattle.refusals.specs.declared.Refusal.{Refusal}
 use Rattle.refusals.specs.Refusal.{number}

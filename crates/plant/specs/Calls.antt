@@ -1,19 +1,19 @@
 -- The calls on the record: document 01, "The plant record and its five calls", and document 02, E1, E3 and E7.
 --
---   Rule                                       what a call is: its refusals, in the order in which they are tested, and its outcome where
---                                              none applies
---   receive, feed, settle, give_back, release   the calls of 01; give_back is its return
---   recycle                                     the call of E1
+--   Rule                                          what a call is: its refusals, in the order in which they are tested, and its outcome
+--                                                 where none applies
+--   receive, feed, settle, give_back, release     the calls of 01; give_back is its return
+--   recycle                                       the call of E1
 --   fed_tests, fed, fed_told, settled_tests, ..   parts of these
---   ruled                                      a call's outcome, or the first refusal that applies
---   rule_by, step_by, step                      any of them, by a request
---   preview_of                                  a preview of it: E3
---   outcome_by                                  the one or the other
---   refusal_for                                 the refusal that applies first, or 0
---   tells_by, told_for                          what a call tells where none applies; the number and the values that a request is told
---   TellsLaw, ExactLaw                          that an answer tells just these, and its number just the refusal
---   FiguresLaw                                  that a call returns the figures that it was handed
---   request, receiving, feeding, ..             the requests
+--   ruled                                         a call's outcome, or the first refusal that applies
+--   rule_by, step_by, step                        any of them, by a request
+--   preview_of                                    a preview of it: E3
+--   outcome_by                                    the one or the other
+--   refusal_for                                   the refusal that applies first, or 0
+--   tells_by, told_for                            what a call tells where none applies; the number and the values that a request is told
+--   TellsLaw, ExactLaw                            that an answer tells just these, and its number just the refusal
+--   FiguresLaw                                    that a call returns the figures that it was handed
+--   request, receiving, feeding, ..               the requests
 --
 -- Every rule goes by the record's own figures, and leaves them as they are.
 use Rattle.std.specs.Prelude.{Bool, cond, ◌&&◌, Option, None, Some, Result, Ok, Err, List, [], ◌∷◌, ◌≡◌, ℕ, ◌+◌, eqb, replicate}
@@ -66,10 +66,10 @@ receive p v =
 -- becomes of it, where r stays; and what it tells.
 abbrev pub fed_tests : Plant → Result Fed Refusal → List (Option Refusal)
 fed_tests p (Ok o) = unless (within digester_ceilings (added p.digester o.vector)) TankAbove ∷ []
-fed_tests p (Err n) = Some n ∷ []
+fed_tests p (Err e) = Some e ∷ []
 
 abbrev pub fed : Plant → Result Fed Refusal → List ℕ → Outcome
-fed p (Err n) r = refused p n
+fed p (Err e) r = refused p e
 fed p (Ok o) r =
     record {
       answer = answer.Fed o.burnt o.oxygen o.nitrate o.warn;
@@ -78,7 +78,7 @@ fed p (Ok o) r =
     }
 
 abbrev pub fed_told : Result Fed Refusal → Told
-fed_told (Err n) = nothing 0
+fed_told (Err e) = nothing 0
 fed_told (Ok o) = record { number = 0; burnt = o.burnt.0; oxygen = o.oxygen.0; nitrate = o.nitrate.0; warn = o.warn; stripped = 0 }
 
 unfoldable pub feed : Plant → ℕ → Rule
@@ -112,10 +112,10 @@ settle p gas d =
 -- becomes of it, where r stays; and what it tells.
 abbrev pub returned_tests : Plant → Result Returned Refusal → List (Option Refusal)
 returned_tests p (Ok o) = unless (within asm1_ceilings (added p.reject o.vector)) TankAbove ∷ []
-returned_tests p (Err n) = Some n ∷ []
+returned_tests p (Err e) = Some e ∷ []
 
 abbrev pub returned : Plant → Result Returned Refusal → List ℕ → Outcome
-returned p (Err n) r = refused p n
+returned p (Err e) r = refused p e
 returned p (Ok o) r =
     record {
       answer = answer.Returned o.stripped;
@@ -124,7 +124,7 @@ returned p (Ok o) r =
     }
 
 abbrev pub returned_told : Result Returned Refusal → Told
-returned_told (Err n) = nothing 0
+returned_told (Err e) = nothing 0
 returned_told (Ok o) = record { number = 0; burnt = 0; oxygen = 0; nitrate = 0; warn = 0; stripped = o.stripped.0 }
 
 unfoldable pub give_back : Plant → ℕ → Rule

@@ -8,9 +8,11 @@
 //   returning  digester to reject
 //   releasing  reject handed out
 //   recycling  reject back into the sludge tank
+//   claims     the laws of the definitions
 #![tactic(auto)]
 
 mod answer;
+mod claims;
 mod feeding;
 mod receiving;
 mod record;
@@ -20,6 +22,7 @@ mod returning;
 mod settling;
 
 pub use answer::{Answer, Call, Outcome, Request, Told, refusal, refusal_of, told_of};
+pub use claims::laws_hold;
 pub use feeding::feed;
 pub use receiving::receive;
 pub use record::{Made, Plant, fresh, make, usable};

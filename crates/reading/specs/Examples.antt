@@ -1,7 +1,7 @@
 -- Lines and what they are read as. proofs/Laws/Examples.antt proves the table by computation.
 --
---   Row, ◌asks◌, examples      a line, and what it asks; the table
---   AllHold, ExamplesHold      each line of a table is read as that; each of this one is
+--   Row, ◌asks◌, examples   a line, and what it asks; the table
+--   AllHold, ExamplesHold   each line of a table is read as that; each of this one is
 use Rattle.std.specs.Prelude.{true, false, Option, List, [], ◌∷◌, ◌≡◌, ℕ, replicate}
 use Prim.Native.String.{String}
 use Rattle.interface.specs.Plants.{Named, ◌is◌, asm1_named, digester_named}

@@ -10,7 +10,8 @@
 --   form_by        the form of a call, inside its bracket: (receive F..), (settle N F..), or one of these
 --
 -- The part inside a bracket is read by itself.
-use Rattle.std.specs.Prelude.{Bool, true, false, cond, ◌&&◌, Option, Some, None, option_and_then, List, [], ◌∷◌, ℕ, ◌+◌, leb, ltb, eqb, length, drop, get_or, set, replicate}
+use Rattle.std.specs.Prelude.{Bool, true, false, cond, ◌&&◌, Option, Some, None, option_and_then, List, [], ◌∷◌, ℕ, ◌+◌, leb, ltb, eqb}
+use Rattle.std.specs.Prelude.{length, drop, get_or, set, replicate}
 use Rattle.vectors.specs.Columns.{asm1, asm1_columns}
 use Rattle.vectors.specs.Units.{milligrams}
 use Rattle.plant.specs.declared.answer.Call.{Call}

@@ -9,13 +9,13 @@
 --   read_line             a line, its fields in order
 --   preview_text          (preview FORM), with any bytes for FORM
 --   PreviewFormLaw        it is read as the preview of what those bytes are read as, so that a preview inside a preview is no form.
---                       proofs/Laws/Line.antt proves it: preview-form-law
---   passes     a line's fields, where it has any, pass a test
---   any_line   a line whose fields stand in any order
---   ordered    they are in order
---   OrderLaw   the lines of read_line are those of any_line that are ordered, and read as there.
---                       proofs/Laws/Line.antt proves it: order-law
-use Rattle.std.specs.Prelude.{Bool, true, false, cond, ◌&&◌, Option, Some, None, List, [], ◌∷◌, ◌++◌, ◌≡◌, ℕ, ◌-◌, ◌≤◌, leb, eqb, length, take, drop, get_or}
+--                         proofs/Laws/Line.antt proves it: preview-form-law
+--   passes                a line's fields, where it has any, pass a test
+--   any_line              a line whose fields stand in any order
+--   ordered               they are in order
+--   OrderLaw              the lines of read_line are those of any_line that are ordered, and read as there: order-law
+use Rattle.std.specs.Prelude.{Bool, true, false, cond, ◌&&◌, Option, Some, None, List, [], ◌∷◌, ◌++◌, ◌≡◌, ℕ, ◌-◌, ◌≤◌, leb, eqb}
+use Rattle.std.specs.Prelude.{length, take, drop, get_or}
 use Rattle.reading.specs.declared.names.Vector.TheVariants.{Sludge, Digester}
 use Rattle.reading.specs.declared.form.Asked.{Asked}
 use Rattle.reading.specs.Text.{ascii, same_bytes, up_to, behind, space, opening, closing}

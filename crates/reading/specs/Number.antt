@@ -2,7 +2,8 @@
 --
 --   read_number   the number that bytes stand for, or none
 --   decimal       a number's digits; those of a number below 10^20, as every number of the code is
-use Rattle.std.specs.Prelude.{Bool, true, false, cond, not, ◌&&◌, Option, Some, None, List, [], ◌∷◌, ℕ, zero, suc, ◌+◌, ◌-◌, ◌*◌, ◌^◌, leb, eqb}
+use Rattle.std.specs.Prelude.{Bool, true, false, cond, not, ◌&&◌, Option, Some, None, List, [], ◌∷◌, ℕ, zero, suc, ◌+◌, ◌-◌, ◌*◌, ◌^◌}
+use Rattle.std.specs.Prelude.{leb, eqb}
 use Rattle.io.specs.Digits.{last_digits}
 
 -- ---- reading

@@ -6,9 +6,11 @@
 //   fields   fields in brackets, in the order of their columns
 //   form     the form of a call, with its vectors
 //   line     a line: a call, a preview of one, or no form
+//   claims    the laws of the definitions
 #![tactic(auto)]
 
 mod bytes;
+mod claims;
 mod fields;
 mod form;
 mod line;
@@ -16,6 +18,7 @@ mod names;
 mod number;
 
 pub use bytes::find_byte;
+pub use claims::laws_hold;
 pub use form::Asked;
 pub use line::read_line;
 pub use names::{ASM1_NAMES, DIGESTER_NAMES};

@@ -3,6 +3,7 @@
 
 ghost use Rattle.std.specs.Prelude.{true, false, ◌≡◌, OnOk, IfErr};
 ghost use Rattle.refusals.specs.Refusal.{number};
+ghost use Rattle.refusals.specs.Laws.{SameLaw};
 
 // A refusal; the table's number stands behind each. A host or a line may give any number, and of one that the table has not, the number
 // is all that is known.
@@ -30,7 +31,7 @@ pub enum Refusal {
     TankAbove,
     // 11: a line is no form.
     NoForm,
-    // 12: the buffer for an answer is short.
+    // 12: the buffer for an answer, or for a line, is short.
     ShortBuffer,
     // 13: a value of a sheet is negative, infinite or no number.
     NoAmount,
@@ -77,3 +78,8 @@ pub fn unless(holds: bool, r: Refusal) -> Result<(), Refusal>
     }
     Err(r)
 }
+
+// The law of this crate, as the contract of a function that does nothing: it is proved, or the crate is not.
+pub fn laws_hold()
+    ensures { SameLaw }
+{}

@@ -1,13 +1,15 @@
 -- What the program writes, block by block and in all.
 --
 --   none_printed                   where nothing is used, nothing is printed
---   block_printed                  by a block's steps, what the run prints is what it printed before and then the bytes that are left to be written
 --   desk_carried                   a place with no answers left stands for what is carried
+--   block_printed                  by a block's steps, what the run prints is what it printed before and then the bytes that are left to be
+--                                  written
 --   end_fits                       where the buffers are the program's, the end of the session has room
 --   run_after                      the run through what was read before and then a block, from what is carried
 --   printed_after                  the same of what is printed
+--   all_printed                    what is written until the input's end and then at the end of the session is what is printed for the
+--                                  input
 --   begun_printed, begun_carried   before the first block
---   all_printed                    what is written until the input's end and then at the end of the session is what is printed for the input
 use Rattle.std.proofs.Common.{true, List, [], ◌∷◌, ◌++◌, ◌≡◌, ℕ, ◌+◌, ◌-◌, ◌≤◌, length, take, drop, arith, refl, sym, ap, ◌∙◌, append-nil}
 use Rattle.std.proofs.Math.Seq.{take-add}
 use Rattle.plant.specs.declared.record.Plant.{Plant}

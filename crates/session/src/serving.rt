@@ -1,4 +1,8 @@
 // What the program sludgeline does: a conversation, or what its argument asks.
+ghost use Rattle.std.specs.Prelude.{◌≡◌, None, IfSome};
+ghost use Rattle.vectors.specs.Figures.{house, figures_of};
+ghost use Rattle.plant.specs.Record.{made};
+
 use crate::channel::{Failure, tell, write_all};
 use crate::talking::talk;
 use plant::Made;
@@ -6,7 +10,7 @@ use reading::read_number;
 use std::env::FillError;
 use std::io::writer;
 use std::rt::{Clock, Env};
-use vectors::Figures;
+use vectors::{Figures, HOUSE};
 
 // With no argument a conversation on a record of the house set, with --figures and nine numbers on a record of these. Of one word, --help
 // and --version are known. A read or a write that fails ends it, and is told on standard error.
@@ -19,7 +23,7 @@ pub fn serve<R: Env + Input + Print + Eprint + Alloc + Clock>(rt: &R) {
 // A conversation, or what the first word asks for; anything else is told on standard error.
 fn serve_word<R: Env + Input + Print + Eprint + Clock>(rt: &R) -> Result<(), Failure> {
     if !has_word(rt, 1) {
-        return talk(rt, plant::fresh());
+        return serve_on(rt, None);
     }
     if is_word(rt, b"--figures") {
         return serve_figures(rt);
@@ -38,19 +42,22 @@ fn serve_word<R: Env + Input + Print + Eprint + Clock>(rt: &R) -> Result<(), Fai
 
 // A conversation on a record of the nine numbers behind --figures. What is no permitted set is told on standard error, and nothing is read.
 fn serve_figures<R: Env + Input + Print + Eprint + Clock>(rt: &R) -> Result<(), Failure> {
-    match nine_numbers(rt) {
-        Some(numbers) => serve_made(rt, plant::make(Figures::from(numbers))),
-        None => {
-            let _ = eprintln!(rt;
-                "sludgeline: --figures takes nine numbers: ixb ixe nxc ni naa nbac fxi fch fli"
-            );
-            Ok(())
-        }
+    let numbers = nine_numbers(rt);
+    if numbers.is_some() {
+        return serve_on(rt, numbers);
     }
+    let _ = eprintln!(rt;
+        "sludgeline: --figures takes nine numbers: ixb ixe nxc ni naa nbac fxi fch fli"
+    );
+    Ok(())
 }
 
-// The same of the record that was made, unless the wish was refused.
-fn serve_made<R: Input + Print + Eprint + Clock>(rt: &R, made: Made) -> Result<(), Failure> {
+// A conversation on the record of the numbers, unless these are no permitted set.
+fn serve_on<R: Input + Print + Eprint + Clock>(
+    rt: &R,
+    numbers: Option<[u64; 9]>,
+) -> Result<(), Failure> {
+    let made = made_of(numbers);
     if made.refusal.is_none() {
         return talk(rt, made.plant);
     }
@@ -58,6 +65,17 @@ fn serve_made<R: Input + Print + Eprint + Clock>(rt: &R, made: Made) -> Result<(
         "sludgeline: each figure is 0 to 10000; nxc, naa and fch + fli are at least 1"
     );
     Ok(())
+}
+
+// The record that a conversation begins with: of the figures with these numbers, or of the house set.
+fn made_of(numbers: Option<[u64; 9]>) -> Made
+    ensures house { numbers ≡ None → result ≡ made house }
+    ensures wished { IfSome numbers (λ n. result ≡ made (figures_of n)) }
+{
+    match numbers {
+        Some(n) => plant::make(Figures::from(n)),
+        None => plant::make(HOUSE),
+    }
 }
 
 // The nine words behind the first, where they are nine numbers as a line has them, and the last. The numbers are put in the order of the

@@ -6,14 +6,14 @@
 --   counts_of, limits_of   the vectors of what the entries count as, and of the counts of their limits
 --   not_sampled            how many entries were not sampled
 --   unseen_of              what a sheet tells: the limits' totals of milligrams, oxygen among them, of ticks and of millimoles,
---                           and that number
---   sheet_readings    the refusal, or all the readings
---   sheet_received    what receive answered, for a sheet
---   sheet_step        the call: the counts of a sheet that is not turned away go through receive
---   CountsWithinLaw   no count is above its column's ceiling. proofs/Laws/Sheet.antt proves it: counts-within
---   SheetTestsLaw     so that a sheet is refused with 13 or 14, 15, 1 and 10, the first that applies: sheet-tests
---   SheetRefusedLaw   a refusal gives the record back: sheet-refused
---   SheetAddsLaw      an accepted sheet adds its counts to the sludge tank, and tells what lies unseen: sheet-adds
+--                          and that number
+--   sheet_readings         the refusal, or all the readings
+--   sheet_received         what receive answered, for a sheet
+--   sheet_step             the call: the counts of a sheet that is not turned away go through receive
+--   CountsWithinLaw        no count is above its column's ceiling. proofs/Laws/Sheet.antt proves it: counts-within
+--   SheetTestsLaw          so that a sheet is refused with 13 or 14, 15, 1 and 10, the first that applies: sheet-tests
+--   SheetRefusedLaw        a refusal gives the record back: sheet-refused
+--   SheetAddsLaw           an accepted sheet adds its counts to the sludge tank, and tells what lies unseen: sheet-adds
 use Rattle.std.specs.Prelude.{true, false, List, [], ◌∷◌, map, zip, count_by, ◌≡◌, ℕ, ◌+◌, Float, Option, None, Some, Result, Ok, Err}
 use Rattle.std.specs.Result.{result_err, result_map_both}
 use Rattle.refusals.specs.declared.Refusal.{Refusal}

@@ -1,7 +1,7 @@
 -- One entry of a laboratory sheet: document 02, E6.
 --
 --   Finding      the enum of the code: a measured value, a result below a detection limit with that limit, or not sampled; of values as
---               they are sent, and of counts
+--                they are sent, and of counts
 --   countable    whether a value or a limit can be counted: it is finite and not negative, and minus zero counts as zero
 --   count_of     the floor of its exact value times a scale
 --   counted_of   its count, or its refusal, 13 or 14

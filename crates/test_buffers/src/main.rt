@@ -20,9 +20,7 @@ fn main() {
 // Lines of each kind, held lines, both on a record whose figures are no permitted set too, the longest answer, and each kind of answer
 // handed back.
 fn all(buf: &mut [u8]) {
-    for s in LINES {
-        line(buf, s);
-    }
+    each_line(buf, plant::fresh());
     for ss in [0, 1000000000000, 1000000000001] {
         held(buf, ss);
     }
@@ -44,13 +42,15 @@ const LINES: [&[u8]; 9] = [
     b"(recycle 1000)",
 ];
 
-// The answer to a line on a fresh record.
-fn line(buf: &mut [u8], s: &[u8]) {
-    line_on(plant::fresh(), buf, s);
+// The answers to the lines, each on the same record.
+fn each_line(buf: &mut [u8], p: Plant) {
+    for s in LINES {
+        line(buf, p, s);
+    }
 }
 
 // The answer to a line on a record.
-fn line_on(p: Plant, buf: &mut [u8], s: &[u8]) {
+fn line(buf: &mut [u8], p: Plant, s: &[u8]) {
     test_show::fill(buf);
     let a = lines::answer_line(p, s, buf);
     test_show::number(b"refusal ", plant::refusal_of(a.outcome.answer));
@@ -76,9 +76,7 @@ fn outside(buf: &mut [u8]) {
         figures: Figures::from([0; 9]),
         ..above(1000000000001)
     };
-    for s in LINES {
-        line_on(p, buf, s);
-    }
+    each_line(buf, p);
     held_of(buf, p);
 }
 
@@ -132,11 +130,11 @@ fn fed() -> Answer {
     }
 }
 
-// The part that the answer writer itself hands back, and a look behind it afterwards: no contract speaks of the bytes there. Under 512
-// bytes the part is empty, and the look goes over the whole buffer.
+// The part that the answer writer itself hands back, and a look behind it afterwards. Under 512 bytes the part is empty, and the look goes
+// over the whole buffer.
 fn handed_back(buf: &mut [u8], a: Answer, v: [u64; 13]) {
     test_show::fill(buf);
-    let k = test_show::part(b"handed back", writing::filled_answer(buf, a, v));
+    let k = test_show::part(b"handed back", writing::filled_answer(buf, a, v).0);
     test_show::behind(buf, k);
 }
 

@@ -112,14 +112,14 @@ fn written(buf: &mut [u8], asked: Asked) {
     test_show::behind(buf, length);
 }
 
-// The part that the writer itself hands back, and a look behind it afterwards: no contract speaks of the bytes there.
+// The part that the writer itself hands back, and a look behind it afterwards.
 fn handed_back(buf: &mut [u8]) {
     test_show::fill(buf);
     let asked = Asked {
         request: some_request(Call::Receive),
         preview: true,
     };
-    let k = test_show::part(b"handed back", composing::filled_line(buf, asked));
+    let k = test_show::part(b"handed back", composing::filled_line(buf, asked).0);
     test_show::behind(buf, k);
 }
 

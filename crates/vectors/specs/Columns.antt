@@ -10,7 +10,7 @@
 --   added                              the sum of two vectors, column by column
 --   fits                               a column of the sum is at most its ceiling, with no sum made
 --
--- A column past the end of a list counts as zero, so that every law below holds for lists of any length.
+-- A column past the end of a list counts as zero, so that every law holds for lists of any length.
 use Rattle.std.specs.Prelude.{Bool, true, false, ◌&&◌, List, [], ◌∷◌, ℕ, suc, ◌+◌, ◌-◌, ◌≤◌, leb, get_or}
 use Prim.Native.String.{String}
 

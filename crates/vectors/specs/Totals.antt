@@ -67,7 +67,21 @@ asm1_cod_weights =
 abbrev pub asm1_fractions : Figures → List ℕ
 asm1_fractions f =
     asm1_columns
-    (record { si = 0; ss = 0; xi = f.ixe; xs = 0; xbh = f.ixb; xba = f.ixb; xp = f.ixe; so = 0; sno = 0; snh = 1; snd = 1; xnd = 1; salk = 0 })
+    (record {
+      si = 0;
+      ss = 0;
+      xi = f.ixe;
+      xs = 0;
+      xbh = f.ixb;
+      xba = f.ixb;
+      xp = f.ixe;
+      so = 0;
+      sno = 0;
+      snh = 1;
+      snd = 1;
+      xnd = 1;
+      salk = 0;
+    })
 
 abbrev pub digester_cod_weights : List ℕ
 digester_cod_weights =

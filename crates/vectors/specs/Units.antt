@@ -1,4 +1,5 @@
--- The units of the code: document 01, "Units, columns and the house set". The definitions are over whole numbers; where one gives a struct of the code, these put a number into its unit.
+-- The units of the code: document 01, "Units, columns and the house set". The definitions are over whole numbers; where one gives a
+-- struct of the code, these put a number into its unit.
 --
 --   milligrams   of COD or of oxygen
 --   ticks        of nitrogen or of nitrate, 0.0001 mg N each

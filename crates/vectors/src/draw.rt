@@ -1,5 +1,5 @@
-// The draw of k thousandths of a vector, and what remains of it. Both loops go by index: `map` asks that N columns fit memory, which no type
-// says of N, and of a write through `iter_mut` the logic knows no element.
+// The draw of k thousandths of a vector, and what remains of it. Both loops go by index: `map` asks that N columns fit memory, which no
+// type says of N, and of a write through `iter_mut` the logic knows no element.
 ghost use Rattle.std.specs.Prelude.{true, ◌≡◌, ◌≤◌};
 ghost use Rattle.vectors.specs.Columns.{within};
 ghost use Rattle.vectors.specs.Draw.{drawn, rest};

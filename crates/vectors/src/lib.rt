@@ -6,9 +6,11 @@
 //   ceilings   ceilings of the columns, and sums of vectors
 //   draw       k thousandths of a vector
 //   totals     COD and TKN
+//   claims     the laws of the definitions
 #![tactic(auto)]
 
 mod ceilings;
+mod claims;
 mod draw;
 mod figures;
 mod totals;
@@ -16,6 +18,7 @@ mod units;
 mod vector;
 
 pub use ceilings::{is_within, sum, sum_is_within, sum_within};
+pub use claims::laws_hold;
 pub use draw::{drawn, rest};
 pub use figures::{Figures, HOUSE, is_permitted};
 pub use totals::{cod, tkn};

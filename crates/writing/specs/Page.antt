@@ -1,7 +1,7 @@
 -- Text on a page.
 --
---   HasRoom   n bytes fit behind what is written
---   Wrote     a writer's promise: s stands behind what was written, and all other bytes of the lent buffer are as they were
+--   HasRoom              n bytes fit behind what is written
+--   Wrote                a writer's promise: s stands behind what was written, and all other bytes of the lent buffer are as they were
 --   parts_of, AllShort   labels and their numbers, and no label longer than twenty bytes
 use Rattle.std.specs.Prelude.{true, List, map, ◌≡◌, ℕ, ◌+◌, ◌≤◌, leb, length}
 use Rattle.std.specs.List.{list_all}

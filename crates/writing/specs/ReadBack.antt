@@ -1,6 +1,5 @@
 -- Reading an answer back: its text determines it.
 --
---   no_digits        no digit stands in a byte string, as a test
 --   numbers_in       the numbers in a text: each run of digits
 --   replies          the words of accepted answers
 --   read_answer      the answer that a text stands for
@@ -9,7 +8,7 @@
 --   ReadBackLaw      reading what was written gives the answer back. proofs/Laws/ReadBack.antt proves it: answer-read
 --   ReadColumnsLaw   and the vector of a release: columns-read
 --   SameTextLaw      two answers that differ are written differently: answer-same
-use Rattle.std.specs.Prelude.{Bool, true, false, cond, not, ◌&&◌, List, [], ◌∷◌, ◌≡◌, ℕ, ◌+◌, ◌-◌, ◌*◌, ◌^◌, ◌<◌, eqb, length, drop, get_or}
+use Rattle.std.specs.Prelude.{Bool, true, false, cond, List, [], ◌∷◌, ◌≡◌, ℕ, ◌+◌, ◌-◌, ◌*◌, ◌^◌, ◌<◌, eqb, length, drop, get_or}
 use Rattle.refusals.specs.declared.Refusal.TheVariants.{Other}
 use Rattle.refusals.specs.Refusal.{number}
 use Rattle.vectors.specs.Units.{milligrams, ticks}
@@ -19,10 +18,6 @@ use Rattle.plant.specs.Answer.{told}
 use Rattle.reading.specs.Text.{Word, ◌means◌, look_up, up_to, space, closing}
 use Rattle.reading.specs.Number.{is_digit}
 use Rattle.writing.specs.Answer.{answer_text}
-
-unfoldable pub no_digits : List ℕ → Bool
-no_digits [] = true
-no_digits (b ∷ s) = not (is_digit b) && no_digits s
 
 -- within a run of digits that stand for n so far, or not
 unfoldable pub scan : Bool → ℕ → List ℕ → List ℕ

@@ -1,12 +1,12 @@
 // Answers as text. The answer stands first in the lent buffer, and the bytes behind it keep their values.
-ghost use Rattle.std.specs.Prelude.{◌≡◌, ◌+◌, ◌≤◌, length};
+ghost use Rattle.std.specs.Prelude.{◌≡◌, ◌+◌, ◌≤◌, length, drop};
 ghost use Rattle.writing.specs.Buffer.{Answered};
 ghost use Rattle.writing.specs.Page.{HasRoom, Wrote};
 ghost use Rattle.refusals.specs.Refusal.{number};
 ghost use Rattle.writing.specs.Answer.{released_text, refused_text, answer_text, held_text, fitting};
 
 use crate::page::Page;
-use crate::put::filled_part;
+use crate::put::split_filled;
 use holding::HeldTotals;
 use plant::Answer;
 use reading::ASM1_NAMES;
@@ -26,13 +26,14 @@ pub fn write_answer(buf: &mut [u8], a: Answer, v: [u64; 13]) -> usize
     page.at
 }
 
-// The same, and hands back the part of the buffer that the answer fills, shared. The buffer goes into the result, so that this contract
-// says nothing of the bytes behind the part; `write_answer`, which it calls, settles them.
-pub fn filled_answer<'a>(buf: &'a mut [u8], a: Answer, v: [u64; 13]) -> &'a [u8]
-    ensures { (result.now ≡ fitting (length buf.old) (answer_text a v)) × (result.ref_ptr ≡ buf.entry.ref_ptr) }
+// The same, and hands back the part of the buffer that the answer fills, shared, and the bytes behind it. A buffer that goes into the
+// result has no value at exit in a contract, so that only the second part can say that these kept theirs.
+pub fn filled_answer<'a>(buf: &'a mut [u8], a: Answer, v: [u64; 13]) -> (&'a [u8], &'a [u8])
+    ensures part { (result.0.now ≡ fitting (length buf.old) (answer_text a v)) × (result.0.ref_ptr ≡ buf.entry.ref_ptr) }
+    ensures behind { result.1.now ≡ drop (length (fitting (length buf.old) (answer_text a v))) buf.old }
 {
     let n = write_answer(buf, a, v);
-    filled_part(buf, n)
+    split_filled(buf, n)
 }
 
 // An answer. It is no `Display`: where std's `write!` answers Err it promises nothing of the buffer, and `write_answer` cannot fail.

@@ -64,7 +64,7 @@ impl<'a> Page<'a> {
         ensures { (Wrote self.old (column_text (unpadded name.now) n) self.new) × (self.new.at ≤ self.old.at + 28) }
     {
         self.put(b" (");
-        let k = find_byte(name, 0, 32);
+        let k = find_byte(name, 0, b' ');
         self.put(&name[..k]);
         self.labelled(b" ", n);
         self.put(b")");

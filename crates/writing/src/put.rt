@@ -1,5 +1,5 @@
 // Bytes in a lent buffer.
-ghost use Rattle.std.specs.Prelude.{◌≡◌, length, take};
+ghost use Rattle.std.specs.Prelude.{◌≡◌, length, take, drop};
 ghost use Rattle.writing.specs.Buffer.{Put, fitted};
 
 use crate::page::Page;
@@ -11,6 +11,14 @@ pub fn filled_part(buf: &[u8], n: usize) -> &[u8]
     ensures { (result.now ≡ take n buf.now) × (result.ref_ptr ≡ buf.entry.ref_ptr) }
 {
     &buf[..n.min(buf.len())]
+}
+
+// The same part, and the bytes behind it.
+pub fn split_filled(buf: &[u8], n: usize) -> (&[u8], &[u8])
+    ensures part { (result.0.now ≡ take n buf.now) × (result.0.ref_ptr ≡ buf.entry.ref_ptr) }
+    ensures behind { result.1.now ≡ drop n buf.now }
+{
+    (filled_part(buf, n), &buf[n.min(buf.len())..])
 }
 
 // Bytes where they fit; where they do not, the buffer is left as it is. The page is made here: the place is the session's, from block

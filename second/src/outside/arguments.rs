@@ -54,7 +54,7 @@ fn run_with(program: &Program, words: Vec<OsString>) -> Result<Came, Trouble> {
 
 /// Asks that these words get a message, and nothing on standard output.
 fn refuses(program: &Program, words: Vec<OsString>) -> Verdict {
-    gives_message_only(&run_with(program, words)?)
+    gives_message_only(&run_with(program, words)?, ARGUMENTS)
 }
 
 /// What these words are answered with, as text; a message is not.
@@ -91,7 +91,7 @@ fn help(program: &Program) -> Verdict {
 fn help_to_full_device(program: &Program) -> Verdict {
     let mut command = program.command();
     command.arg("--help").stdout(device()?);
-    ended_with_message(&Watched::start(command)?.end())
+    ended_with_message(&Watched::start(command)?.end(), OUTPUT)
 }
 
 /// The version: one line that begins with the name.
@@ -136,7 +136,7 @@ fn dairy_with(place: usize, word: impl Into<OsString>) -> Vec<OsString> {
 fn refuses_set(program: &Program, words: Vec<OsString>) -> Verdict {
     let shown = format!("{:.200}", format!("{words:?}"));
     let came = run_with(program, words)?;
-    gives_message_only(&came)?;
+    gives_message_only(&came, ARGUMENTS)?;
     ask(came.1.status.success(), || format!("{shown}: it ended with {}", came.1.status))
 }
 

@@ -95,14 +95,14 @@ fn slow_writer_to_a_socket(program: &Program) -> Verdict {
 fn directory_as_input(program: &Program) -> Verdict {
     let mut command = program.command();
     command.stdin(File::open(&program.folder)?);
-    gives_message_only(&program.run(command, b"")?)
+    gives_message_only(&program.run(command, b"")?, INPUT)
 }
 
 /// No input at all, which is not the same as an empty one.
 fn closed_input(program: &Program) -> Verdict {
     let mut command = program.command();
     system::without_file(&mut command, 0);
-    gives_message_only(&program.run(command, b"")?)
+    gives_message_only(&program.run(command, b"")?, INPUT)
 }
 
 /// Interrupts the program in its reads while the input comes: everything is answered. What
@@ -147,5 +147,5 @@ fn input_that_breaks_off(program: &Program) -> Verdict {
     let right = right_answers(&input);
     let (came, ended) = program.run(command, &right)?;
     ask(came == right, || difference(&right, &came))?;
-    ended_with_message(&ended)
+    ended_with_message(&ended, INPUT)
 }

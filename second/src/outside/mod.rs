@@ -34,6 +34,11 @@ const AT_ONCE: Duration = Duration::from_secs(2);
 /// What a message begins with.
 const NAME: &[u8] = b"sludgeline: ";
 
+/// What stands behind that where a read fails, and where a write does. Of arguments nothing does.
+const INPUT: &str = "standard input: ";
+const OUTPUT: &str = "standard output: ";
+const ARGUMENTS: &str = "";
+
 /// Why a trial was not passed.
 pub enum Trouble {
     Failed(String),
@@ -123,11 +128,14 @@ fn ended_itself(ended: &Ended) -> Verdict {
     }
 }
 
-/// Asks that the program ended by itself and with a message.
-fn ended_with_message(ended: &Ended) -> Verdict {
+/// Asks that the program ended by itself and with a message that names what failed.
+fn ended_with_message(ended: &Ended, what: &str) -> Verdict {
     ended_itself(ended)?;
     ask(!ended.messages.is_empty(), || "no message on standard error".into())?;
-    let named = ended.messages.strip_prefix(NAME).is_some_and(|words| words.len() > 1);
+    let behind = ended.messages.strip_prefix(NAME);
+    let named = behind
+        .and_then(|words| words.strip_prefix(what.as_bytes()))
+        .is_some_and(|words| words.len() > 1);
     let one = ended.messages.iter().filter(|&&byte| byte == b'\n').count() == 1;
     ask(named && one, || format!("on standard error: {}", shown(&ended.messages)))
 }
@@ -159,14 +167,14 @@ fn is_beginning(right: &[u8], came: &[u8]) -> Verdict {
 fn gives_beginning(right: &[u8], (came, ended): &Came) -> Verdict {
     ended_in_time(ended)?;
     is_beginning(right, came)?;
-    ended_with_message(ended)
+    ended_with_message(ended, OUTPUT)
 }
 
-/// Asks for nothing on standard output, and a message.
-fn gives_message_only((came, ended): &Came) -> Verdict {
+/// Asks for nothing on standard output, and a message that names what failed.
+fn gives_message_only((came, ended): &Came, what: &str) -> Verdict {
     ended_in_time(ended)?;
     ask(came.is_empty(), || format!("on standard output: {}", shown(came)))?;
-    ended_with_message(ended)
+    ended_with_message(ended, what)
 }
 
 /// Everything that a source gives, but at most a megabyte more than is right.

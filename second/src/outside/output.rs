@@ -39,17 +39,17 @@ pub(super) fn device() -> Result<File, Trouble> {
 fn full_device(program: &Program) -> Verdict {
     let mut command = program.command();
     command.stdout(device()?);
-    ended_with_message(&program.ends_at_once(command)?)?;
+    ended_with_message(&program.ends_at_once(command)?, OUTPUT)?;
     let mut command = program.command_on(&long_session().bytes)?;
     command.stdout(device()?);
-    ended_with_message(&Watched::start(command)?.end())
+    ended_with_message(&Watched::start(command)?.end(), OUTPUT)
 }
 
 /// The same without input: the held line alone cannot be written.
 fn full_device_without_input(program: &Program) -> Verdict {
     let mut command = program.command();
     command.stdout(device()?);
-    ended_with_message(&Watched::start(command)?.end())
+    ended_with_message(&Watched::start(command)?.end(), OUTPUT)
 }
 
 /// Where the message cannot be written either, the program ends all the same.
@@ -227,7 +227,7 @@ fn closed_output(program: &Program) -> Verdict {
     let mut command = program.command();
     command.stdout(Stdio::null());
     system::without_file(&mut command, 1);
-    ended_with_message(&program.ends_at_once(command)?)
+    ended_with_message(&program.ends_at_once(command)?, OUTPUT)
 }
 
 /// Interrupts the program again and again while its output is full: everything arrives.
@@ -268,7 +268,7 @@ fn reader_gone(program: &Program) -> Verdict {
         let (came, ended) = leave_after(program.command_on(&long.bytes)?, count)?;
         is_beginning(&long.right, &came)?;
         if ended.signal() != Some(SIGPIPE) {
-            ended_with_message(&ended)?;
+            ended_with_message(&ended, OUTPUT)?;
         }
     }
     Ok(())

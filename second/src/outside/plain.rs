@@ -1,8 +1,11 @@
 //! Trials in which nothing goes wrong: all of the right output is asked for, and no
 //! message. Inputs come from a file and through a pipe.
 
-use super::inputs::{lines_up_to, mixed_lines, steady_lines};
-use super::{milliseconds, Program, Trial, Verdict};
+use super::inputs::{lines_up_to, mixed_lines, right_output, steady_lines};
+use super::watched::Watched;
+use super::{ask, difference, gives_all, milliseconds, Program, Trial, Verdict};
+use std::io::{BufRead, BufReader, Read, Write};
+use std::process::Stdio;
 use std::time::Duration;
 
 /// The trials of plain inputs.
@@ -17,6 +20,7 @@ pub const TRIALS: &[Trial] = &[
     ("line-of-1024", |program| with_line_of(program, 1024)),
     ("line-of-1025", |program| with_line_of(program, 1025)),
     ("line-of-70000", |program| with_line_of(program, 70_000)),
+    ("line-by-line", line_by_line),
     ("megabytes", megabytes),
 ];
 
@@ -66,6 +70,35 @@ fn with_line_of(program: &Program, length: usize) -> Verdict {
     input.push(b'\n');
     input.extend_from_slice(&steady_lines(20));
     both_ways(program, &input)
+}
+
+/// How many lines end in these bytes.
+fn lines_in(bytes: &[u8]) -> usize {
+    bytes.iter().filter(|&&byte| byte == b'\n').count()
+}
+
+/// A host that writes a line and the first bytes of the next, and waits for the answer to the
+/// whole one, which has to come before the program reads on. The deadline ends the waiting.
+fn line_by_line(program: &Program) -> Verdict {
+    let input = steady_lines(60);
+    let right = right_output(&input);
+    let mut command = program.command();
+    command.stdin(Stdio::piped());
+    let mut running = Watched::start(command)?;
+    let (mut to, mut from) = (running.take_input(), BufReader::new(running.take_output()));
+    let (mut came, mut place, mut given) = (Vec::new(), 0, 0);
+    for line in input.split_inclusive(|&byte| byte == b'\n') {
+        place += line.len();
+        let more = input.len().min(place + 5);
+        to.write_all(&input[given..more])?;
+        given = more;
+        from.read_until(b'\n', &mut came)?;
+        ask(came.ends_with(b"\n"), || format!("line {} got no answer", 1 + lines_in(&came)))?;
+        ask(right.starts_with(&came), || difference(&right, &came))?;
+    }
+    drop(to);
+    from.read_to_end(&mut came)?;
+    gives_all(&right, &(came, running.end()))
 }
 
 /// Some megabytes of lines of every kind.

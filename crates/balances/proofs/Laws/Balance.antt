@@ -11,6 +11,7 @@
 --   balance            BalanceLaw
 --   figures-stay       StayLaw
 --   recycle-holds      RecycleLaw
+--   recycle-moves      MovesLaw
 --   previews-skipped   SkipLaw
 --   sheets-as-calls    SheetLaw
 use mathlib.Core.Bool.{Bool, true, false, cond}
@@ -36,6 +37,8 @@ use Rattle.vectors.specs.Totals.{digester_nitrate}
 use Rattle.interface.specs.Feed.{feed_of}
 use Rattle.interface.specs.Return.{return_of}
 use Rattle.vectors.specs.Laws.{Linear}
+use Rattle.vectors.proofs.Laws.Columns.{added-column}
+use Rattle.vectors.proofs.Laws.Draw.{column-splits}
 use Rattle.vectors.proofs.Laws.Totals.{total-laws}
 use Rattle.interface.proofs.Laws.Feed.{feed-keeps}
 use Rattle.interface.proofs.Laws.Return.{return-keeps}
@@ -59,7 +62,7 @@ use Rattle.sheets.specs.Sheet.{refusal_in, counts_of, sheet_step}
 use Rattle.sheets.proofs.Laws.Sheet.{sheet-plant, sheet-figures}
 use Rattle.balances.specs.Balance.{Entry, calls, previews, sheets, after, sheet_adds, sum_over, without_previews, sheets_as_calls}
 use Rattle.balances.specs.Balance.{counts, if_accepted, received_by, released_by, gas_by, BalanceLaw, StayLaw, RecycleLaw, SkipLaw}
-use Rattle.balances.specs.Balance.{SheetLaw}
+use Rattle.balances.specs.Balance.{SheetLaw, Moved, MovesLaw}
 
 -- ---- quantities
 
@@ -327,6 +330,26 @@ recycle-holds p k =
       oxygen = recycle-kept oxygen-quantity p k;
       nitrate = recycle-kept nitrate-quantity p k;
     }
+
+pub recycle-moves : MovesLaw
+unfolding step_by ruled recycle
+recycle-moves p k =
+    let rule = recycle p k in
+    decide-case (Moved p (recycling k)) p (first rule.tests) rule.done (λ e. moved (at-draw p k _ e).0.1) (λ n. kept n)
+  where
+    moved : k ≤ 1000 → Moved p (recycling k) (recycle p k).done
+    moved h =
+        record {
+          columns = λ i. omega (arith, column-splits k h p.reject i, added-column p.sludge (drawn k p.reject) i);
+          digester = refl;
+          received = λ t. refl;
+          released = λ t. refl;
+          gas = refl;
+          silent = refl;
+        }
+
+    kept : (n : Refusal) → Moved p (recycling k) (refused p n)
+    kept n = record { columns = λ i. refl; digester = refl; received = λ t. refl; released = λ t. refl; gas = refl; silent = refl }
 
 -- ---- previews
 

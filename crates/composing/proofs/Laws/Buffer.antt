@@ -5,6 +5,7 @@
 --   entry-preview                a preview of a call
 --   line_refused, line-written   the promise of the call in a short buffer, and in any other
 --   line-count, line-filled      how many bytes the line has, and the part that it fills
+--   line-behind                  the bytes behind the part
 use mathlib.Core.Bool.{Bool, true, false, cond}
 use mathlib.Core.List.{List, [], ◌++◌, append_assoc}
 use mathlib.Core.Path.{◌≡◌, refl, sym, ap, ◌∙◌}
@@ -12,7 +13,7 @@ use Prim.Native.Nat.{ℕ, ◌+◌, ◌≤◌, ◌<◌}
 use native.Mathlib.Nat.{zero-add}
 use lib.Dec.{ltb}
 use lib.ListN.{length, take, drop}
-use lib.Seq.{take_at}
+use lib.Seq.{take_at, drop_at}
 use borrow.Author.Tests.{lt-ltb, le-ltb}
 use Rattle.std.specs.Prelude.{Result, Ok, Err}
 use Rattle.std.specs.Result.{result_unwrap_or}
@@ -75,6 +76,12 @@ module _ (d : List ℕ) (b : Bool) (r : Request) where
   line-filled {w} p =
       let s = written_text (length d) b r in
       ap (take (result_unwrap_or w 0)) p.buffer ∙ take_at s (drop (length s) d) (result_unwrap_or w 0) (sym (line-count p))
+
+  pub line-behind : {w : Result ℕ Refusal} {e : List ℕ} → LineWritten d b r w e
+      → drop (result_unwrap_or w 0) e ≡ drop (length (written_text (length d) b r)) d
+  line-behind {w} p =
+      let s = written_text (length d) b r in
+      ap (drop (result_unwrap_or w 0)) p.buffer ∙ drop_at s (drop (length s) d) (result_unwrap_or w 0) (sym (line-count p))
 
 -- on a page over a buffer of 1,025 bytes or more; e is what the buffer holds when the page is given up
 pub line-written : {p q : Page} {e : List ℕ} (b : Bool) (r : Request) → e ≡ q.bytes.now → 1025 ≤ length p.bytes.now → p.at ≡ 0

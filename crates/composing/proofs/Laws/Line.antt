@@ -19,7 +19,7 @@ use borrow.Author.Tests.{le-ltb}
 use lib.Seq.{take_at, drop_at, ext_get_or}
 use Rattle.vectors.specs.Columns.{asm1, asm1_columns}
 use Rattle.vectors.specs.Units.{milligrams}
-use Rattle.vectors.proofs.Laws.Columns.{both_true}
+use Rattle.std.proofs.lemmas.Bool.{and_parts}
 use Rattle.refusals.specs.declared.Refusal.TheVariants.{ShortBuffer}
 use Rattle.plant.specs.declared.record.Plant.{Plant}
 use Rattle.plant.specs.declared.answer.Call.{Call}
@@ -73,7 +73,7 @@ fields-length : (c : ℕ) (ns : List (List ℕ)) (v : List ℕ) → all_clear ns
 unfolding columns_from column_or_none all_clear
 fields-length c [] v e = omega arith
 fields-length c (x ∷ ns) v e =
-    let t = both_true (clear x) (all_clear ns) e in
+    let t = and_parts (clear x) (all_clear ns) e in
     go (eqb (get_or v c 0) 0) (clear-lacks x t.0).2 (fields-length (c + 1) ns v t.1)
   where
     rest : List ℕ

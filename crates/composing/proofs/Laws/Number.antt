@@ -18,7 +18,8 @@ use lib.Dec.{leb, eqb}
 use lib.ListN.{length}
 use borrow.Author.Tests.{leb-true, le-leb, eqb-true, eqb-false, not-true}
 use Rattle.io.specs.Digits.{last_digits, hex_digit_ascii, IsDigitCount}
-use Rattle.vectors.proofs.Laws.Columns.{both_true}
+use Rattle.std.proofs.lemmas.Bool.{and_parts}
+use Rattle.std.proofs.lemmas.Option.{none-some}
 use Rattle.std.proofs.Common.{Some, None}
 use Rattle.reading.specs.Number.{is_digit, all_digits, value_after, leads, largest, read_after, read_number, places_from, decimal}
 use Rattle.writing.proofs.Laws.Decimal.{decimal-is, fewest-le, digits-length, decimal-digits, decimal-value, glyph-is}
@@ -38,7 +39,7 @@ value-from n (b ∷ s) =
     omega (arith, value-from (n * 10 + d) s, value-from (0 * 10 + d) s, here, swap)
 
 digit-is : (b : ℕ) → is_digit b ≡ true → (48 ≤ b) × (b ≤ 57)
-digit-is b e = let c = both_true (leb 48 b) (leb b 57) e in (leb-true 48 b c.0, leb-true b 57 c.1)
+digit-is b e = let c = and_parts (leb 48 b) (leb b 57) e in (leb-true 48 b c.0, leb-true b 57 c.1)
 
 -- the first digit, and the others
 value-first : (b : ℕ) (s : List ℕ) → value_after 0 (b ∷ s) ≡ (b - 48) * 10 ^ length s + value_after 0 s
@@ -52,7 +53,7 @@ value-below : (s : List ℕ) → all_digits s ≡ true → value_after 0 s < 10 
 unfolding all_digits value_after
 value-below [] e = omega arith
 value-below (b ∷ s) e =
-    let c = both_true (is_digit b) (all_digits s) e in
+    let c = and_parts (is_digit b) (all_digits s) e in
     let d = digit-is b c.0 in
     let h : b - 48 ≤ 9 = omega arith in
     omega (arith, value-first b s, value-below s c.1, mul-le-mul_right (10 ^ length s) h, pow-suc 10 (length s))
@@ -79,7 +80,7 @@ unfolding all_digits leads
 leads-least [] e l = absurd (false≢true l)
 leads-least (b ∷ []) e l = (omega arith, value-below (b ∷ []) e, λ h. absurd (omega arith))
 leads-least (b ∷ (c ∷ s)) e l =
-    let d = (both_true (is_digit b) (all_digits (c ∷ s)) e).0 in
+    let d = (and_parts (is_digit b) (all_digits (c ∷ s)) e).0 in
     let h = value-least b (c ∷ s) d (not-true (eqb b 48) l) in
     (omega arith, value-below (b ∷ (c ∷ s)) e, λ k. omega (arith, power-before b (c ∷ s), h))
 
@@ -91,7 +92,7 @@ least-leads (b ∷ (c ∷ s)) e f = go (eqb b 48) refl
   where
     go : (t : Bool) → eqb b 48 ≡ t → not t ≡ true
     go true z =
-        let d = both_true (is_digit b) (all_digits (c ∷ s)) e in
+        let d = and_parts (is_digit b) (all_digits (c ∷ s)) e in
         let v : value_after 0 (b ∷ (c ∷ s)) ≡ value_after 0 (c ∷ s) =
         ap (λ (x : ℕ). value_after (0 * 10 + (x - 48)) (c ∷ s)) (eqb-true b 48 z) in
         absurd (omega (arith, value-below (c ∷ s) d.1, v, f.2 (omega arith), power-before b (c ∷ s)))
@@ -149,7 +150,7 @@ value-digits j n (b ∷ s) e =
     m = n * 10 + (b - 48)
 
     c : (is_digit b ≡ true) × (all_digits s ≡ true)
-    c = both_true (is_digit b) (all_digits s) e
+    c = and_parts (is_digit b) (all_digits s) e
 
     place : j + suc (length s) ≡ suc j + length s
     place = omega arith
@@ -163,9 +164,6 @@ value-digits j n (b ∷ s) e =
         let r : m % 10 ≡ b - 48 = omega arith in
         glyph-is (m % 10) (omega arith) ∙ omega arith
 
-not-value : {n : ℕ} → None ≡ Some n → ⊥
-not-value e = let z : ◌≡◌ {A = ℕ} 0 1 = cc in omega arith
-
 -- what is read as a number
 number_is : (s : List ℕ) (n : ℕ) → read_number s ≡ Some n
     → (leads s ≡ true) × (all_digits s ≡ true) × (value_after 0 s ≡ n) × (n ≤ largest)
@@ -176,11 +174,11 @@ number_is s n e = go (leads s) (all_digits s && leb (value_after 0 s) largest) r
         → cond a (cond b (Some (value_after 0 s)) None) None ≡ Some n
         → (leads s ≡ true) × (all_digits s ≡ true) × (value_after 0 s ≡ n) × (n ≤ largest)
     go true true p q r =
-        let c = both_true (all_digits s) _ q in
+        let c = and_parts (all_digits s) _ q in
         let v : value_after 0 s ≡ n = cc in
         (p, c.0, v, omega (arith, leb-true (value_after 0 s) largest c.1))
-    go true false p q r = absurd (not-value r)
-    go false b p q r = absurd (not-value r)
+    go true false p q r = absurd (none-some _ r)
+    go false b p q r = absurd (none-some _ r)
 
 pub decimal-only : (s : List ℕ) (n : ℕ) → read_number s ≡ Some n → s ≡ decimal n
 decimal-only s n e =

@@ -5,7 +5,6 @@
 --   brackets-.., closing-split      a text in brackets
 --   preview-is                      a preview
 --   column-is                       a name that is found
---   none-some                       none is not some
 --   field_is, inside_is, piece_is   a piece that is read as a field
 --   add_is, from_is, then-some      a further field that is taken
 --   Named, left-named               a piece that is taken, and what is left to read behind it
@@ -32,7 +31,9 @@ use lib.ListN.{length, take, drop, get_or, set, length-drop, length-set, drop_of
 use lib.Seq.{split_at, get_or-drop, drop-drop, drop-length, get_or-set_same, get_or-set_other}
 use borrow.Author.Tests.{leb-true, ltb-true, eqb-true, not-true}
 use Rattle.vectors.specs.Columns.{asm1, asm1_columns}
-use Rattle.vectors.proofs.Laws.Columns.{both_true}
+use Rattle.vectors.proofs.Laws.Columns.{same_at}
+use Rattle.std.proofs.lemmas.Bool.{and_parts}
+use Rattle.std.proofs.lemmas.Option.{none-some}
 use Rattle.plant.specs.declared.answer.Call.{Call}
 use Rattle.plant.specs.declared.answer.Call.TheVariants.{Receive, Feed, Settle, Return, Release, Recycle}
 use Rattle.std.proofs.Common.{Option, Some, None, option_and_then}
@@ -56,7 +57,7 @@ use Rattle.writing.proofs.Laws.Decimal.{decimal-digits}
 use Rattle.composing.specs.Line.{fields_from, fields_text, call_text, entry_text, asked_by}
 use Rattle.composing.specs.Line.{none_zero, fields_no_zero, names_no_zero, TextOnlyLaw}
 use Rattle.composing.proofs.Laws.Number.{decimal-only}
-use Rattle.composing.proofs.Laws.Column.{piece-text, same_at}
+use Rattle.composing.proofs.Laws.Column.{piece-text}
 
 -- ---- pieces
 
@@ -103,8 +104,8 @@ brackets-ends : (s : List ℕ) → in_brackets s ≡ true → (get_or s 0 0 ≡ 
 unfolding in_brackets
 brackets-ends s e =
     let a = leb 2 (length s) && leb (length s) 1024 in
-    let b = both_true (a && eqb (get_or s 0 0) 40) (eqb (get_or s (length s - 1) 0) 41) e in
-    (eqb-true (get_or s 0 0) 40 (both_true a (eqb (get_or s 0 0) 40) b.0).1, eqb-true (get_or s (length s - 1) 0) 41 b.1)
+    let b = and_parts (a && eqb (get_or s 0 0) 40) (eqb (get_or s (length s - 1) 0) 41) e in
+    (eqb-true (get_or s 0 0) 40 (and_parts a (eqb (get_or s 0 0) 40) b.0).1, eqb-true (get_or s (length s - 1) 0) 41 b.1)
 
 -- what stands behind n bytes, with the bracket at its end
 closing-split : (n : ℕ) (s : List ℕ) → in_brackets s ≡ true → n < length s
@@ -138,7 +139,7 @@ preview-is : (s : List ℕ) → is_preview s ≡ true → s ≡ preview_text (fo
 unfolding is_preview
 preview-is s e =
     preview-split s e
-    ∙ ap (λ (l : List ℕ). ascii "(preview " ++ l) (closing-split 9 s (both_true (in_brackets s) _ e).0 (preview-ten s e))
+    ∙ ap (λ (l : List ℕ). ascii "(preview " ++ l) (closing-split 9 s (and_parts (in_brackets s) _ e).0 (preview-ten s e))
 
 -- ---- a name
 
@@ -146,7 +147,7 @@ preview-is s e =
 column-is : (j : ℕ) (ns : List (List ℕ)) (s : List ℕ) (c : ℕ) → column_from j ns s ≡ Some c
     → (i : ℕ) × (c ≡ j + i) × (i < length ns) × (s ≡ get_or ns i [])
 unfolding column_from
-column-is j [] s c e = absurd (let z : ◌≡◌ {A = ℕ} 0 1 = cc in omega arith)
+column-is j [] s c e = absurd (none-some _ e)
 column-is j (n ∷ ns) s c e = go (same_bytes s n) refl e (column-is (j + 1) ns s c)
   where
     go : (t : Bool) → same_bytes s n ≡ t → cond t (Some j) (column_from (j + 1) ns s) ≡ Some c
@@ -157,20 +158,17 @@ column-is j (n ∷ ns) s c e = go (same_bytes s n) refl e (column-is (j + 1) ns 
 
 -- ---- one piece
 
--- none is not some
-none-some : {A : Type 0} {x : A} → None ≡ Some x → ⊥
-none-some e = let z : ◌≡◌ {A = ℕ} 0 1 = cc in omega arith
-
 field_is : (x m : Option ℕ) (c k : ℕ) → field_of x m ≡ field c k → (x ≡ Some c) × (m ≡ Some k)
 field_is (Some a) (Some b) c k e = (ap Some (ap column_in e), ap Some (ap number_in e))
-field_is (Some a) None c k e = absurd (none-some e)
-field_is None m c k e = absurd (none-some e)
+field_is (Some a) None c k e = absurd (none-some _ e)
+field_is None m c k e = absurd (none-some _ e)
 
 -- the bytes of a field, inside its bracket
 abbrev field_bytes : List (List ℕ) → ℕ → ℕ → List ℕ
 field_bytes names c k = get_or names c [] ++ (32 ∷ decimal k)
 
-inside_is : (names : List (List ℕ)) (s : List ℕ) (c k : ℕ) → read_field names s ≡ field c k → (c < length names) × (s ≡ field_bytes names c k)
+inside_is : (names : List (List ℕ)) (s : List ℕ) (c k : ℕ) → read_field names s ≡ field c k
+    → (c < length names) × (s ≡ field_bytes names c k)
 unfolding read_field
 inside_is names s c k e =
     let f = field_is (column_of names (up_to 32 s)) (read_number (behind 32 s)) c k e in
@@ -182,45 +180,45 @@ inside_is names s c k e =
 piece_is : (names : List (List ℕ)) (p : List ℕ) (c k : ℕ) → read_piece names p ≡ field c k
     → (c < length names) × (p ≡ 32 ∷ (40 ∷ field_bytes names c k))
 unfolding read_piece
-piece_is names [] c k e = absurd (none-some e)
-piece_is names (a ∷ []) c k e = absurd (none-some e)
+piece_is names [] c k e = absurd (none-some _ e)
+piece_is names (a ∷ []) c k e = absurd (none-some _ e)
 piece_is names (a ∷ (b ∷ s)) c k e = go (eqb a 32 && eqb b 40) refl e
   where
     go : (t : Bool) → (eqb a 32 && eqb b 40) ≡ t → cond t (read_field names s) None ≡ field c k
         → (c < length names) × (a ∷ (b ∷ s) ≡ 32 ∷ (40 ∷ field_bytes names c k))
     go true q r =
         let i = inside_is names s c k r in
-        let t = both_true (eqb a 32) (eqb b 40) q in
+        let t = and_parts (eqb a 32) (eqb b 40) q in
         let x = eqb-true a 32 t.0 in
         let y = eqb-true b 40 t.1 in
         (i.0, cc i.1)
-    go false q r = absurd (none-some r)
+    go false q r = absurd (none-some _ r)
 
 -- ---- a field, and what is left behind it
 
 add_is : (f : Fields) (x : Option Field) (g : Fields) → add_field f x ≡ Some g
     → (c : ℕ) × (k : ℕ) × (x ≡ field c k) × (c < 26) × (g ≡ put f c k)
 unfolding add_field
-add_is f None g e = absurd (none-some e)
+add_is f None g e = absurd (none-some _ e)
 add_is f (Some y) g e = go (ltb y.column 26) (get_or f.seen y.column false) refl e
   where
     go : (a b : Bool) → ltb y.column 26 ≡ a → cond a (cond b None (Some (put f y.column y.number))) None ≡ Some g
         → (c : ℕ) × (k : ℕ) × (Some y ≡ field c k) × (c < 26) × (g ≡ put f c k)
-    go true true q r = absurd (none-some r)
+    go true true q r = absurd (none-some _ r)
     go true false q r = (y.column, y.number, refl, ltb-true y.column 26 q, cc)
-    go false b q r = absurd (none-some r)
+    go false b q r = absurd (none-some _ r)
 
 from_is : (n : ℕ) (x : Option Field) (c k : ℕ) → field_from n x ≡ field c k → (x ≡ field c k) × (n ≤ c)
-from_is n None c k e = absurd (none-some e)
+from_is n None c k e = absurd (none-some _ e)
 from_is n (Some y) c k e = go (leb n y.column) refl e
   where
     go : (t : Bool) → leb n y.column ≡ t → cond t (Some y) None ≡ field c k → (Some y ≡ field c k) × (n ≤ c)
     go true q r = (r, omega (arith, ap column_in r, leb-true n y.column q))
-    go false q r = absurd (none-some r)
+    go false q r = absurd (none-some _ r)
 
 -- what comes of something is of something
 then-some : {A B : Type 0} (o : Option A) (f : A → Option B) (g : B) → option_and_then f o ≡ Some g → (x : A) × (o ≡ Some x)
-then-some None f g e = absurd (none-some e)
+then-some None f g e = absurd (none-some _ e)
 then-some (Some x) f g e = (x, refl)
 
 -- the piece p is taken as a field, whose column is n or behind it
@@ -336,16 +334,16 @@ read_step names n f p q ps m g z o r = (text, λ j h. other j (omega (arith, m.f
 left-text : (names : List (List ℕ)) (n : ℕ) (f : Fields) (ps : List (List ℕ)) (g : Fields) → ZeroFrom n f.columns
     → none_zero (from_fields number_in names ps) ≡ true → left names n f ps ≡ Some g → Read names n f ps g
 unfolding glue read_pieces from_fields rises none_zero
-left-text names n f [] g z o e = absurd (none-some e)
+left-text names n f [] g z o e = absurd (none-some _ e)
 left-text names n f ([] ∷ []) g z o e =
     let q : f ≡ g = cc in
     subst (Read names n f ([] ∷ [])) q (sym (fields-none n (drop n names) f.columns z.1), λ j h. refl)
-left-text names n f ((c ∷ s) ∷ []) g z o e = absurd (none-some e)
+left-text names n f ((c ∷ s) ∷ []) g z o e = absurd (none-some _ e)
 left-text names n f (p ∷ (q ∷ ps)) g z o e =
     let m = left-named names n f p (q ∷ ps) g (omega arith) e in
     let c = m.column in
     let k = m.number in
-    let b = both_true (not (eqb (number_in (read_piece names p)) 0)) _ o in
+    let b = and_parts (not (eqb (number_in (read_piece names p)) 0)) _ o in
     let y = not-true (eqb k 0) (sym (ap (λ (x : Option Field). not (eqb (number_in x) 0)) m.piece) ∙ b.0) in
     let r = left-text names (c + 1) (put f c k) (q ∷ ps) g (zero-next n c k f.columns m.from z) b.1 (sym m.rest ∙ e) in
     read_step names n f p q ps m g z y r
@@ -407,7 +405,8 @@ module _ (t : List ℕ) where
       fits g q (Some f) o = (refl, ap bracketed (text g f q o))
       fits g q None o = tt
 
-      go : (n : Option ℕ) → read_number (up_to 32 u) ≡ n → CallIs (bracketed t) (settle_line n (read_fields (names_of Digester) (settle_part u)))
+      go : (n : Option ℕ) → read_number (up_to 32 u) ≡ n
+          → CallIs (bracketed t) (settle_line n (read_fields (names_of Digester) (settle_part u)))
       go (Some g) q = fits g q (read_fields (names_of Digester) (settle_part u)) refl
       go None q = tt
 

@@ -21,7 +21,9 @@ use lib.Dec.{leb, eqb}
 use lib.ListN.{length, drop, get_or, set, length-append, length-set, length-drop, get_or-eq_default}
 use lib.Seq.{drop-cons, get_or-set_same, get_or-set_other}
 use borrow.Author.Tests.{leb-true, leb-false, le-leb, eq-eqb, ne_eqb, eqb-true}
-use Rattle.vectors.proofs.Laws.Columns.{both_true}
+use Rattle.vectors.proofs.Laws.Columns.{same_at}
+use Rattle.std.proofs.lemmas.Bool.{and_parts}
+use Rattle.std.proofs.lemmas.Option.{none-some}
 use Rattle.std.proofs.Common.{Option, Some, None, option_and_then}
 use Rattle.reading.specs.declared.names.Vector.TheVariants.{Sludge, Digester}
 use Rattle.reading.specs.declared.fields.Field.{Field}
@@ -29,8 +31,8 @@ use Rattle.reading.specs.declared.fields.Fields.{Fields}
 use Rattle.reading.specs.Text.{ascii, same_bytes, up_to, behind, pieces}
 use Rattle.reading.specs.Number.{is_digit, all_digits, largest, read_number, decimal}
 use Rattle.reading.specs.Names.{names_of, column_from, column_of, from_column, distinct}
-use Rattle.reading.specs.Form.{field, field_of, read_field, read_piece, no_fields, add_field, number_in, column_in, read_pieces, from_fields}
-use Rattle.reading.specs.Form.{rises, read_fields, field_from}
+use Rattle.reading.specs.Form.{field, field_of, read_field, read_piece, no_fields, add_field, number_in, column_in}
+use Rattle.reading.specs.Form.{read_pieces, from_fields, rises, read_fields, field_from}
 use Rattle.reading.proofs.Laws.Text.{same-equal, pieces-cut, pieces-some}
 use Rattle.reading.proofs.Laws.Names.{column-found, column-from}
 use Rattle.reading.proofs.Laws.Form.{put, add-first, left, left_step}
@@ -39,7 +41,7 @@ use Rattle.writing.proofs.Laws.Decimal.{decimal-digits}
 use Rattle.writing.proofs.Laws.Page.{column-none, column-some}
 use Rattle.composing.specs.Line.{fields_from, fields_text, none_zero, fields_no_zero}
 use Rattle.composing.proofs.Laws.Number.{decimal-read}
-use Rattle.composing.proofs.Laws.Column.{piece-text, same_at}
+use Rattle.composing.proofs.Laws.Column.{piece-text}
 
 -- ---- bytes that lack a byte
 
@@ -77,8 +79,8 @@ pub lacks-digits : (b : ℕ) (s : List ℕ) → b < 48 → all_digits s ≡ true
 unfolding up_to all_digits
 lacks-digits b [] h e = refl
 lacks-digits b (c ∷ s) h e =
-    let d = both_true (is_digit c) (all_digits s) e in
-    let c-digit = both_true (leb 48 c) (leb c 57) d.0 in
+    let d = and_parts (is_digit c) (all_digits s) e in
+    let c-digit = and_parts (leb 48 c) (leb c 57) d.0 in
     ap (λ t. cond t [] (c ∷ up_to b s)) (ne_eqb c b (λ q. omega (arith, leb-true 48 c c-digit.0)))
     ∙ ap (λ (x : List ℕ). c ∷ x) (lacks-digits b s h d.1)
 
@@ -126,14 +128,14 @@ plain-digester = record { once = refl; cleared = refl; few = omega arith }
 clear_at : (names : List (List ℕ)) (c : ℕ) → c < length names → all_clear names ≡ true → clear (get_or names c []) ≡ true
 unfolding all_clear
 clear_at [] c h e = absurd (omega arith)
-clear_at (n ∷ ns) zero h e = (both_true (clear n) (all_clear ns) e).0
-clear_at (n ∷ ns) (suc c) h e = clear_at ns c (omega arith) (both_true (clear n) (all_clear ns) e).1
+clear_at (n ∷ ns) zero h e = (and_parts (clear n) (all_clear ns) e).0
+clear_at (n ∷ ns) (suc c) h e = clear_at ns c (omega arith) (and_parts (clear n) (all_clear ns) e).1
 
 pub clear-lacks : (s : List ℕ) → clear s ≡ true → Lacks 32 s × Lacks 41 s × (length s ≤ 4)
 unfolding clear
 clear-lacks s e =
-    let space = both_true (same_bytes (up_to 32 s) s) (same_bytes (up_to 41 s) s && leb (length s) 4) e in
-    let bracket = both_true (same_bytes (up_to 41 s) s) (leb (length s) 4) space.1 in
+    let space = and_parts (same_bytes (up_to 32 s) s) (same_bytes (up_to 41 s) s && leb (length s) 4) e in
+    let bracket = and_parts (same_bytes (up_to 41 s) s) (leb (length s) 4) space.1 in
     (same-equal (up_to 32 s) s space.0, same-equal (up_to 41 s) s bracket.0, leb-true (length s) 4 bracket.1)
 
 -- what is found from its own column on is that column
@@ -142,8 +144,8 @@ from_at c (Some i) e = go (leb c i) e
   where
     go : (t : Bool) → cond t (Some i) None ≡ Some c → Some i ≡ Some c
     go true q = q
-    go false q = absurd (let z : ◌≡◌ {A = ℕ} 0 1 = cc in omega arith)
-from_at c None e = absurd (let z : ◌≡◌ {A = ℕ} 0 1 = cc in omega arith)
+    go false q = absurd (none-some _ q)
+from_at c None e = absurd (none-some _ e)
 
 same_refl : (s : List ℕ) → same_bytes s s ≡ true
 unfolding same_bytes
@@ -154,7 +156,8 @@ module _ (names : List (List ℕ)) (plain : Plain names) (c : ℕ) (h : c < leng
   pub name-column : column_of names (get_or names c []) ≡ Some c
   name-column =
       from_at c (column_of names (get_or names c []))
-      (sym (column-from c names (get_or names c []) plain.once) ∙ column-found names (get_or names c []) c c h (same_refl (get_or names c [])))
+      (sym (column-from c names (get_or names c []) plain.once)
+      ∙ column-found names (get_or names c []) c c h (same_refl (get_or names c [])))
 
   -- ---- one column
 

@@ -7,7 +7,7 @@
 --   fits-true, room-true                  what the test of the buffers' room tells
 --   ready-true, ready_of                  where a step can be taken
 --   through-newline, through-end          a step where all fits: a line is answered, or its bytes are held
---   step-still, step-goes                 a step: the block is used or the buffers have no room, or all fits
+--   goes, step-still, step-goes           a step: the block is used or the buffers have no room, or all fits
 --   last_none, last_some                  the lines that are left behind the last byte: none, or one
 --   end-unfit, end-ready                  behind the last byte: the buffers have no room, or all fits
 use mathlib.Core.Bool.{true, false, cond, ◌&&◌}
@@ -20,7 +20,7 @@ use Rattle.std.proofs.lemmas.List.{take_rest}
 use lib.ListN.{length, take, drop, length-drop, drop_of_length-le}
 use lib.Seq.{drop-drop, length-take-le}
 use borrow.Author.Tests.{lt-ltb, le-ltb, le-leb, eq-eqb, leb-true, eqb-true, ltb-true}
-use Rattle.vectors.proofs.Laws.Columns.{both_true}
+use Rattle.std.proofs.lemmas.Bool.{and_parts}
 use Rattle.plant.specs.declared.record.Plant.{Plant}
 use Rattle.plant.specs.declared.answer.Outcome.{Outcome}
 use Rattle.holding.specs.Held.{held_of}
@@ -134,8 +134,8 @@ module _ (block line out s : List ℕ) (p : Place) {e h : ℕ} {line2 : List ℕ
 pub fits-true : (n held at line out : ℕ) → fits n held at line out ≡ true → (held ≤ 1025) × (line ≡ 1025) × (at + n ≤ out)
 unfolding fits
 fits-true n held at line out e =
-    let a = both_true (leb held 1025 && eqb line 1025) (leb (at + n) out) e in
-    let b = both_true (leb held 1025) (eqb line 1025) a.0 in
+    let a = and_parts (leb held 1025 && eqb line 1025) (leb (at + n) out) e in
+    let b = and_parts (leb held 1025) (eqb line 1025) a.0 in
     (leb-true held 1025 b.0, eqb-true line 1025 b.1, leb-true (at + n) out a.1)
 
 pub room-true : (n : ℕ) (k : Desk) → room_for n k ≡ true → (k.place.held ≤ 1025) × (length k.line ≡ 1025) × (k.place.at + n ≤ length k.out)
@@ -144,7 +144,7 @@ room-true n k e = fits-true n k.place.held k.place.at (length k.line) (length k.
 pub ready-true : (block : List ℕ) (k : Desk) → ready block k ≡ true
     → (k.place.used < length block) × (k.place.held ≤ 1025) × (length k.line ≡ 1025) × (k.place.at + 513 ≤ length k.out)
 ready-true block k e =
-    let b = both_true (ltb k.place.used (length block)) (desk_fits k) e in
+    let b = and_parts (ltb k.place.used (length block)) (desk_fits k) e in
     let t = room-true 513 k b.1 in
     (ltb-true k.place.used (length block) b.0, t.0, t.1, t.2)
 
@@ -161,7 +161,8 @@ ready_of block k u h l o =
     )
 
 module _ (block : List ℕ) (k : Desk) where
-  abbrev goes : Desk
+  -- where a step that all fits goes
+  abbrev pub goes : Desk
   goes = through block k (line_in block k.place.used) (k.place.used + length (line_in block k.place.used))
 
   pub step-still : ready block k ≡ false → k ≡ step_of block k

@@ -27,12 +27,12 @@ use Rattle.reading.specs.Text.{newline, up_to}
 use Rattle.writing.specs.Buffer.{put_at}
 use Rattle.lines.specs.Session as session
 use Rattle.lines.specs.Session.{State, keep, kept, run, answer_of, after_line, said}
-use Rattle.lines.specs.Blocks.{Desk, desk, room_for, desk_fits, ready, room, gathered, answered_desk, ended, through, line_in, step_of}
+use Rattle.lines.specs.Blocks.{Desk, desk, room_for, desk_fits, ready, room, gathered, answered_desk, ended, line_in, step_of}
 use Rattle.lines.specs.Blocks.{steps_of, block_of, end_of}
 use Rattle.lines.specs.Blocks.{state_of, DeskLaw}
 use Rattle.reading.proofs.Laws.Text.{up_to-length}
 use Rattle.lines.proofs.Laws.Session.{run-append, take-take-append}
-use Rattle.lines.proofs.Laws.Blocks.{part-line, room-true, ready-true, step-still}
+use Rattle.lines.proofs.Laws.Blocks.{part-line, room-true, ready-true, goes, step-still}
 
 -- ---- bytes
 
@@ -144,16 +144,14 @@ module _ (block : List ℕ) (p : Place) (line out : List ℕ) (h : p.held ≤ 10
   )
 
 module _ (block : List ℕ) (k : Desk) where
-  abbrev goes : Desk
-  goes = through block k (line_in block k.place.used) (k.place.used + length (line_in block k.place.used))
-
   pub step-state : state_of (step_of block k)
       ≡ run (state_of k) (take ((step_of block k).place.used - k.place.used) (drop k.place.used block))
   unfolding step_of run
   step-state = go (ready block k) refl
     where
       go : (t : Bool) → ready block k ≡ t
-          → state_of (cond t goes k) ≡ run (state_of k) (take ((cond t goes k).place.used - k.place.used) (drop k.place.used block))
+          → state_of (cond t (goes block k) k)
+          ≡ run (state_of k) (take ((cond t (goes block k) k).place.used - k.place.used) (drop k.place.used block))
       go true e =
           let t = ready-true block k e in
           through-state block k.place k.line k.out t.1 t.2 t.3 (ltb (k.place.used + length (line_in block k.place.used)) (length block))
@@ -262,8 +260,7 @@ module _ (block : List ℕ) where
   unfolding step_of
   step-held k h = go (ready block k)
     where
-      go : (t : Bool) → (cond t (through block k (line_in block k.place.used) (k.place.used + length (line_in block k.place.used)))
-          k).place.held ≤ 1025
+      go : (t : Bool) → (cond t (goes block k) k).place.held ≤ 1025
       go true = through-held (ltb (k.place.used + length (line_in block k.place.used)) (length block)) k (line_in block k.place.used)
           (k.place.used + length (line_in block k.place.used)) h
       go false = h

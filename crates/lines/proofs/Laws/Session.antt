@@ -1,11 +1,12 @@
 -- Laws of a session. Assumes nothing.
 --
 --   given-cut        a line cut to 1,025 bytes is answered as the line is
+--   one-cut          OneLineLaw: a text without a newline is one line
 --   run-append       bytes run one part behind the other
 --   printed-whole    PrintedLaw: however an input falls into blocks, what is printed is that of its lines
 --   after-entries    the record after lines is that after the calls and previews that they ask
-use mathlib.Core.Bool.{Bool, true, false, cond}
-use mathlib.Core.List.{List, [], ◌∷◌, ◌++◌, append_assoc}
+use mathlib.Core.Bool.{Bool, true, false, cond, not}
+use mathlib.Core.List.{List, [], ◌∷◌, ◌++◌, append_assoc, append-nil}
 use mathlib.Core.Path.{◌≡◌, refl, sym, ap, ◌∙◌}
 use Prim.Native.Nat.{ℕ, zero, suc}
 use native.Mathlib.Omega.{arith}
@@ -19,11 +20,12 @@ use Rattle.plant.specs.Calls.{outcome_by}
 use Rattle.balances.specs.Balance.{entry, after}
 use Rattle.std.proofs.Common.{Option, Some, None}
 use Rattle.reading.specs.declared.form.Asked.{Asked}
-use Rattle.reading.specs.Text.{newline}
+use Rattle.std.proofs.lemmas.Bool.{and_parts}
+use Rattle.reading.specs.Text.{newline, one_line}
 use Rattle.reading.specs.Line.{read_line}
 use Rattle.lines.specs.Asking.{form_outcome, outcome_text}
 use Rattle.lines.specs.Session.{cut, given_by, answer_of, after_line, answers, after_lines, held_line_text, transcript, entry_of, entries}
-use Rattle.lines.specs.Session.{State, start, kept, ended, run, joined, run_blocks, said, PrintedLaw}
+use Rattle.lines.specs.Session.{State, start, kept, ended, run, joined, run_blocks, said, OneLineLaw, PrintedLaw}
 use Rattle.reading.proofs.Laws.Line.{line-long}
 
 -- ---- a line over 1,024 bytes
@@ -40,6 +42,30 @@ line-cut l = go (leb (length l) 1025) refl
 pub given-cut : (p : Plant) (l : List ℕ) → given_by p (take 1025 l) ≡ given_by p l
 unfolding given_by
 given-cut p l = ap (form_outcome p) (line-cut l)
+
+-- ---- a text without a newline
+
+-- one byte that is no newline, where the rest is cut as z
+cut-byte : (h l s : List ℕ) (b : ℕ) (z : List (List ℕ)) → not (eqb b newline) ≡ true → cut (h ++ (b ∷ [])) (l ++ (newline ∷ s)) ≡ z
+    → cut h (b ∷ l ++ (newline ∷ s)) ≡ z
+unfolding cut
+cut-byte h l s b z e r = go (eqb b newline) e
+  where
+    go : (t : Bool) → not t ≡ true → cond t (h ∷ cut [] (l ++ (newline ∷ s))) (cut (h ++ (b ∷ [])) (l ++ (newline ∷ s))) ≡ z
+    go true q = absurd (cc q)
+    go false q = r
+
+-- behind what the line has so far
+cut-one : (h l s : List ℕ) → one_line l ≡ true → cut h (l ++ (newline ∷ s)) ≡ (h ++ l) ∷ cut [] s
+unfolding cut one_line
+cut-one h [] s e = ap (λ (x : List ℕ). x ∷ cut [] s) (sym (append-nil h))
+cut-one h (b ∷ l) s e =
+    let both = and_parts (not (eqb b newline)) (one_line l) e in
+    let rest = ap (λ (x : List ℕ). x ∷ cut [] s) (append_assoc h (b ∷ []) l) in
+    cut-byte h l s b ((h ++ (b ∷ l)) ∷ cut [] s) both.0 (cut-one (h ++ (b ∷ [])) l s both.1 ∙ rest)
+
+pub one-cut : OneLineLaw
+one-cut l s e = cut-one [] l s e
 
 -- ---- bytes
 

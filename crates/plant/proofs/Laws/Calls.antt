@@ -16,6 +16,7 @@ use mathlib.Core.Path.{◌≡◌, refl, ap, ◌∙◌}
 use Prim.Native.Nat.{ℕ, ◌+◌}
 use lib.Dec.{eqb}
 use borrow.Author.Tests.{eq-eqb, eqb-true}
+use Rattle.std.proofs.lemmas.Bool.{and_parts}
 use Rattle.std.specs.Prelude.{Option, None, Some, Result, Ok, Err}
 use Rattle.refusals.specs.declared.Refusal.{Refusal}
 use Rattle.refusals.specs.declared.Refusal.TheVariants.{ColumnAbove, CodOpen, TknOpen, CarriedOpen}
@@ -25,7 +26,6 @@ use Rattle.vectors.specs.declared.units.Milligrams.{Milligrams}
 use Rattle.vectors.specs.Columns.{digester_ceilings, within}
 use Rattle.vectors.specs.Draw.{drawn, rest}
 use Rattle.vectors.specs.Totals.{digester_cod, digester_tkn, digester_oxygen, digester_nitrate}
-use Rattle.vectors.proofs.Laws.Columns.{both_true}
 use Rattle.interface.specs.declared.feed.Fed.{Fed}
 use Rattle.interface.specs.declared.returning.Returned.{Returned}
 use Rattle.interface.specs.Feed.{feed_of}
@@ -203,7 +203,7 @@ settle-passed p g d e =
     let at-columns = number-passed (within digester_ceilings d) ColumnAbove t_7 tt at-record.1 in
     let at-cod = number-passed (eqb (digester_cod old) (digester_cod d + g.0)) CodOpen t_8 tt at-columns.1 in
     let at-tkn = number-passed (eqb (digester_tkn p.figures old) (digester_tkn p.figures d)) TknOpen t_9 tt at-cod.1 in
-    let carried = both_true _ _ (number-passed same CarriedOpen [] tt at-tkn.1).0 in
+    let carried = and_parts _ _ (number-passed same CarriedOpen [] tt at-tkn.1).0 in
     record {
       held = at-record.0;
       proposed = at-columns.0;

@@ -1,9 +1,9 @@
 -- Laws of the record's tests. Assumes nothing.
 --
---   usable-permitted, usable-within   the figures and the columns of a record that is not sent away
---   usable-is                         and back
---   record-number                     what sends a record away has a number
---   made-law                          MadeLaw
+--   usable-permitted, usable-within                 the figures and the columns of a record that is not sent away
+--   usable-is                                       and back
+--   record-number                                   what sends a record away has a number
+--   made-law                                        MadeLaw
 --   sludge-within, digester-within, reject-within   the tanks of a record that is within its ceilings
 --   thousandths-le                                  a k that passes is at most 1000
 --   drawable                                        what a draw asks, by what the code tests: the record, and k
@@ -16,13 +16,13 @@ use Prim.Native.Nat.{ℕ, ◌+◌, ◌-◌, ◌≤◌}
 use native.Mathlib.Omega.{arith}
 use lib.Dec.{leb, eqb}
 use borrow.Author.Tests.{leb-true, eqb-true, eqb-false, eq-eqb, ne_eqb}
+use Rattle.std.proofs.lemmas.Bool.{and_parts}
 use Rattle.std.specs.Prelude.{None, Some, cond}
 use Rattle.refusals.specs.declared.Refusal.TheVariants.{RecordAbove, NotPermitted}
 use Rattle.refusals.specs.Refusal.{number_of}
 use Rattle.refusals.specs.Tests.{unless, first}
 use Rattle.vectors.specs.Figures.{house, permitted, Permitted}
 use Rattle.vectors.specs.Columns.{asm1_ceilings, digester_ceilings, within}
-use Rattle.vectors.proofs.Laws.Columns.{both_true}
 use Rattle.vectors.proofs.Laws.Figures.{permitted-law, house-permitted}
 use Rattle.plant.specs.declared.record.Plant.{Plant}
 use Rattle.plant.specs.declared.record.Made.{Made}
@@ -77,19 +77,19 @@ made-law f = record { granted = granted; refused = refused (permitted f) refl; b
 
 pub sludge-within : (p : Plant) → record_within p ≡ true → within asm1_ceilings p.sludge ≡ true
 unfolding record_within
-sludge-within p e = (both_true _ (within digester_ceilings p.digester && within asm1_ceilings p.reject) e).0
+sludge-within p e = (and_parts _ (within digester_ceilings p.digester && within asm1_ceilings p.reject) e).0
 
 pub digester-within : (p : Plant) → record_within p ≡ true → within digester_ceilings p.digester ≡ true
 unfolding record_within
-digester-within p e = (both_true _ (within asm1_ceilings p.reject) (both_true (within asm1_ceilings p.sludge) _ e).1).0
+digester-within p e = (and_parts _ (within asm1_ceilings p.reject) (and_parts (within asm1_ceilings p.sludge) _ e).1).0
 
 pub reject-within : (p : Plant) → record_within p ≡ true → within asm1_ceilings p.reject ≡ true
 unfolding record_within
-reject-within p e = (both_true (within digester_ceilings p.digester) _ (both_true (within asm1_ceilings p.sludge) _ e).1).1
+reject-within p e = (and_parts (within digester_ceilings p.digester) _ (and_parts (within asm1_ceilings p.sludge) _ e).1).1
 
 pub thousandths-le : (k : ℕ) → thousandths k ≡ true → k ≤ 1000
 unfolding thousandths
-thousandths-le k e = leb-true k 1000 (both_true (leb 1 k) (leb k 1000) e).1
+thousandths-le k e = leb-true k 1000 (and_parts (leb 1 k) (leb k 1000) e).1
 
 pub drawable : {A : Type 0} (p : Plant) (k : ℕ) {b : Bool} → (record_within p ≡ true → A)
     → None ≡ record_refusal p → b ≡ thousandths k → b ≡ true → A × (k ≤ 1000)

@@ -1,22 +1,18 @@
 -- The record stays within its ceilings over any call. Assumes nothing.
 --
---   rest-within    what a draw leaves is within the ceilings
---   tanks-within   three tanks within their ceilings are a record within its own
+--   tanks-within                  three tanks within their ceilings are a record within its own
 --   fed-within, returned-within   what becomes of a conversion is such a record where no refusal applies
---   done-within    each call leaves such a record where no refusal applies
---   step-within    any call does
---   fresh-within   a fresh record is one
+--   done-within                   each call leaves such a record where no refusal applies
+--   step-within                   any call does
+--   fresh-within                  a fresh record is one
 use mathlib.Core.Bool.{true}
 use mathlib.Core.List.{List, [], ◌∷◌}
 use mathlib.Core.Path.{◌≡◌, refl}
 use Prim.Native.Nat.{ℕ}
-use native.Mathlib.Omega.{arith}
-use lib.Dec.{leb}
-use borrow.Author.Tests.{leb-true, le-leb}
+use Rattle.vectors.proofs.Laws.Draw.{within-rest}
 use Rattle.vectors.specs.declared.figures.Figures.{Figures}
 use Rattle.vectors.specs.Columns.{asm1_ceilings, digester_ceilings, within, added}
-use Rattle.vectors.specs.Draw.{drawn, remainder, rest}
-use Rattle.vectors.proofs.Laws.Columns.{both_true}
+use Rattle.vectors.specs.Draw.{drawn}
 use Rattle.plant.specs.declared.record.Plant.{Plant}
 use Rattle.plant.specs.declared.answer.Call.{Call}
 use Rattle.plant.specs.declared.answer.Call.TheVariants as call
@@ -36,17 +32,7 @@ use Rattle.plant.specs.Calls.{settled_tests, fed_tests, fed, returned_tests, ret
 use Rattle.plant.proofs.Laws.Record.{sludge-within, digester-within, reject-within}
 use Rattle.plant.proofs.Laws.Decision.{decide-case, passed-by, passed, draw-passed}
 
--- ---- vectors and records
-
--- for any k: a k above 1000 leaves no more than there was either
-pub rest-within : (k : ℕ) (cs v : List ℕ) → within cs v ≡ true → within cs (rest k v) ≡ true
-unfolding within
-rest-within k cs [] e = refl
-rest-within k [] (x ∷ v) e = e
-rest-within k (c ∷ cs) (x ∷ v) e =
-    let p = both_true (leb x c) (within cs v) e in
-    let h = leb-true x c p.0 in
-    rw (le-leb (remainder k x) c (omega arith)) (rest-within k cs v p.1)
+-- ---- records
 
 pub tanks-within : (p : Plant) → within asm1_ceilings p.sludge ≡ true → within digester_ceilings p.digester ≡ true
     → within asm1_ceilings p.reject ≡ true → record_within p ≡ true
@@ -80,7 +66,7 @@ module _ (p : Plant) (h : record_within p ≡ true) where
       tanks-within _ (passed (within asm1_ceilings (added p.sludge v)) TankAbove [] e2).0 (digester-within p h) (reject-within p h)
   done-within (call.Feed k) v d e =
       let x = feed_of p.figures (drawn k p.sludge) in
-      fed-within x _ (rest-within k asm1_ceilings p.sludge (sludge-within p h)) (draw-passed p k (fed_tests p x) e).1
+      fed-within x _ (within-rest k asm1_ceilings p.sludge (sludge-within p h)) (draw-passed p k (fed_tests p x) e).1
   done-within (call.Settle g) v d e =
       let ts = unless (within digester_ceilings d) ColumnAbove ∷ settled_tests p.figures p.digester g d in
       let e1 = (passed-by (record_refusal p) ts e).1 in
@@ -88,13 +74,13 @@ module _ (p : Plant) (h : record_within p ≡ true) where
       tanks-within _ (sludge-within p h) proposed (reject-within p h)
   done-within (call.Return k) v d e =
       let x = return_of p.figures (drawn k p.digester) in
-      returned-within x _ (rest-within k digester_ceilings p.digester (digester-within p h)) (draw-passed p k (returned_tests p x) e).1
+      returned-within x _ (within-rest k digester_ceilings p.digester (digester-within p h)) (draw-passed p k (returned_tests p x) e).1
   done-within (call.Release k) v d e =
-      tanks-within _ (sludge-within p h) (digester-within p h) (rest-within k asm1_ceilings p.reject (reject-within p h))
+      tanks-within _ (sludge-within p h) (digester-within p h) (within-rest k asm1_ceilings p.reject (reject-within p h))
   done-within (call.Recycle k) v d e =
       let filled = within asm1_ceilings (added p.sludge (drawn k p.reject)) in
       let fits = (passed filled TankAbove [] (draw-passed p k (unless filled TankAbove ∷ []) e).1).0 in
-      tanks-within _ fits (digester-within p h) (rest-within k asm1_ceilings p.reject (reject-within p h))
+      tanks-within _ fits (digester-within p h) (within-rest k asm1_ceilings p.reject (reject-within p h))
 
 pub step-within : (p : Plant) (r : Request) → record_within p ≡ true → record_within (step p r).plant ≡ true
 unfolding step_by ruled

@@ -16,7 +16,7 @@ use native.Mathlib.Omega.{arith}
 use lib.ListN.{length, take, drop, get_or, length-append, take-append-drop}
 use lib.Seq.{get_or_at, take_at, take-append-add}
 use borrow.Author.Tests.{eq-eqb, ne_eqb, le-leb, lt-leb, leb-true}
-use Rattle.vectors.proofs.Laws.Columns.{both_true}
+use Rattle.std.proofs.lemmas.Bool.{and_parts}
 use Rattle.std.proofs.Common.{Option, Some, None}
 use Rattle.reading.specs.declared.names.Vector.TheVariants.{Sludge, Digester}
 use Rattle.reading.specs.declared.fields.Fields.{Fields}
@@ -62,7 +62,7 @@ module _ (s : List ℕ) where
 
   pub brackets-two : in_brackets s ≡ true → 2 ≤ length s
   unfolding in_brackets
-  brackets-two e = leb-true 2 (length s) (both_true _ _ (both_true _ _ (both_true _ _ e).0).0).0
+  brackets-two e = leb-true 2 (length s) (and_parts _ _ (and_parts _ _ (and_parts _ _ e).0).0).0
 
   -- ---- calls
 
@@ -93,12 +93,12 @@ module _ (s : List ℕ) where
   unfolding is_preview
   preview-split e =
       sym (take-append-drop 9 s)
-      ∙ ap (λ (w : List ℕ). w ++ drop 9 s) (same-equal (take 9 s) (ascii "(preview ") (both_true (in_brackets s) _ e).1)
+      ∙ ap (λ (w : List ℕ). w ++ drop 9 s) (same-equal (take 9 s) (ascii "(preview ") (and_parts (in_brackets s) _ e).1)
 
   -- a bracket follows, so that there is a byte behind the space
   pub preview-ten : is_preview s ≡ true → 10 ≤ length s
   unfolding is_preview in_brackets
-  preview-ten e = go (drop 9 s) (preview-split e) (both_true (in_brackets s) _ e).0
+  preview-ten e = go (drop 9 s) (preview-split e) (and_parts (in_brackets s) _ e).0
     where
       go : (x : List ℕ) → s ≡ ascii "(preview " ++ x → in_brackets s ≡ true → 10 ≤ length s
       go [] q i = absurd (false≢true (ap in_brackets (sym q) ∙ i))

@@ -4,6 +4,7 @@
 --   column-from                             a search that begins at a later column, where no name stands twice
 --   unpadded-other                          a name with another second byte
 --   asm1-names, digester-names              the code's tables
+--   tables                                  TablesLaw
 use mathlib.Core.Bool.{true, false}
 use mathlib.Core.List.{List, [], ◌∷◌}
 use mathlib.Core.Path.{◌≡◌, refl, sym, ap, ◌∙◌}
@@ -17,7 +18,7 @@ use Rattle.std.proofs.lemmas.List.{drop_more, get_or-take}
 use Rattle.reading.specs.declared.names.TheConstants.{ASM1_NAMES, DIGESTER_NAMES}
 use Rattle.reading.specs.declared.names.Vector.TheVariants.{Sludge, Digester}
 use Rattle.reading.specs.Text.{same_bytes, up_to, space}
-use Rattle.reading.specs.Names.{names_of, column_from, column_of, from_column, unpadded, unpadded_all, unknown, distinct}
+use Rattle.reading.specs.Names.{names_of, column_from, column_of, from_column, unpadded, unpadded_all, unknown, distinct, TablesLaw}
 use Rattle.reading.proofs.Laws.Text.{same-equal, up_to-take}
 
 module _ (ns : List (List ℕ)) (s : List ℕ) (k i : ℕ) where
@@ -88,3 +89,6 @@ asm1-names = refl
 pub digester-names : unpadded_all DIGESTER_NAMES ≡ names_of Digester
 unfolding up_to
 digester-names = refl
+
+pub tables : TablesLaw
+tables = (refl, refl)

@@ -1,9 +1,13 @@
 -- Laws of sheets. Assumes nothing.
 --
---   scale-at                                     the scale of a column in the code's table
---   readings-length, reading-at                  the readings of a sheet: how many, and the one at a column
---   collected-..                                 a list of readings of which none is refused, and one with a refusal in it
---   read-more, read-stop, read-end               where the loop over a sheet stands: one turn, a bad column, its end
+--   scale-at                                  the scale of a column in the code's table
+--   readings-length, reading-at, read-at      the readings of a sheet: how many, and the one at a column
+--   collected-.., all-.., stop-collected      a list of readings of which none is refused, and one with a refusal in it
+--   read-more, read-stop, read-end            where the loop over a sheet stands: one turn, a bad column, its end
+--   counts-within                             CountsWithinLaw; limits-below the same of the limits
+--   sheet-received, sheet-turned              the call, by what the readings are
+--   sheet-plant, sheet-figures                the record behind a sheet, and its figures
+--   sheet-tests, sheet-refused, sheet-adds    SheetTestsLaw, SheetRefusedLaw, SheetAddsLaw
 use mathlib.Core.Bool.{Bool, true, false, cond}
 use mathlib.Core.List.{List, [], ◌∷◌, ◌++◌, map}
 use mathlib.Core.Path.{◌≡◌, refl, sym, ap, ◌∙◌}

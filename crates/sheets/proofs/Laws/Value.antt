@@ -25,7 +25,7 @@ use lib.Ieee.Fits.{up_pos, down_pos}
 use lib.Ieee.Nearest.{div_same}
 use lib.Ieee.Order.{le_of_values}
 use borrow.Author.Tests.{leb-true, ne_eqb}
-use Rattle.vectors.proofs.Laws.Columns.{both_true}
+use Rattle.std.proofs.lemmas.Bool.{and_parts, true≢false}
 use Rattle.std.specs.Prelude.{Option, None, Some, Result, Ok, Err}
 use Rattle.std.specs.Option.{SomeIff, unwrap_or}
 use Rattle.std.specs.Float.{float_is_finite}
@@ -59,9 +59,6 @@ fields_value s (suc x) t h =
     rw (ne_eqb (suc x) 255 (omega arith))
     (subst (λ (n : ℕ). HasValue (odd 24 s (8388608 + t) x 149) s n (2 ^ 149)) (sym (size-suc x t)) (odd_sign 24 s (8388608 + t) x 149))
 
-true-false : true ≡ false → ⊥
-true-false e = cc
-
 fields-top : (s : Bool) (field digits : ℕ) → field ≡ 255 → float_is_finite (of_fields binary32 s field digits) ≡ false
 unfolding of_fields float_is_finite
 fields-top s field t e = rw e (go (eqb t 0))
@@ -82,7 +79,7 @@ no-product m u h e = omega (arith, le-mul_of_pos_right m h)
 -- minus zero is level with zero, and no other negative number is
 level-zero : (a b : ℕ) → (eqb a b && (false || eqb a 0)) ≡ true → b ≡ 0
 level-zero a b e =
-    let p = both_true (eqb a b) (eqb a 0) e in
+    let p = and_parts (eqb a b) (eqb a 0) e in
     sym (eqb→eq a b (subst T (sym p.0) tt)) ∙ eqb→eq a 0 (subst T (sym p.1) tt)
 
 pub countable-passed : (x : Float) (s : Bool) (a c : ℕ) → HasValue x s a c → le zero_float x ≡ true → countable x ≡ true
@@ -104,8 +101,8 @@ countable-failed (inf t) e = refl
 countable-failed (fin false m z) e =
     let none : 0 * down z ≤ m * up z * 1 = rw (zero-mul (down z)) zero-le in
     let t = le_of_values zero_float (fin false m z) 0 1 (m * up z) (down z) (zero-lt-suc 0) (down_pos z) (refl, refl) (refl, refl) none in
-    absurd (true-false (sym (is_true _ t) ∙ e))
-countable-failed (fin true zero z) e = absurd (true-false (sym (minus-zero z) ∙ e))
+    absurd (true≢false (sym (is_true _ t) ∙ e))
+countable-failed (fin true zero z) e = absurd (true≢false (sym (minus-zero z) ∙ e))
 countable-failed (fin true (suc m) z) e = ne_eqb (suc m) 0 (omega arith)
 
 -- ---- off the bits
@@ -133,7 +130,7 @@ pub field-below : (x : Float) → T (fits binary32 x) → float_is_finite x ≡ 
 field-below x h p =
     let b = to_bits binary32 x in
     let field = b % 2147483648 / 8388608 in
-    let n : field ≡ 255 → ⊥ = λ e. true-false
+    let n : field ≡ 255 → ⊥ = λ e. true≢false
     (sym p ∙ ap float_is_finite (bits-fields x h) ∙ fields-top (leb 2147483648 b) field (b % 8388608) e) in
     omega arith
 
@@ -141,7 +138,7 @@ pub infinite-uncounted : (x : Float) (scale ceiling : ℕ) → float_is_finite x
 unfolding counted_of countable float_is_finite
 infinite-uncounted nan scale ceiling e = refl
 infinite-uncounted (inf s) scale ceiling e = refl
-infinite-uncounted (fin s m z) scale ceiling e = absurd (true-false e)
+infinite-uncounted (fin s m z) scale ceiling e = absurd (true≢false e)
 
 pub test-uncounted : (x : Float) (scale ceiling : ℕ) → le zero_float x ≡ false → Err NoAmount ≡ counted_of scale ceiling x
 unfolding counted_of

@@ -3,6 +3,7 @@
 --   Filled            a loop that replaces the elements of one list by those of another, from the front
 --   within-..         the ceiling test: at a column, as a fold, as inequalities; below-within from these
 --   room-..           the ceiling test of a sum, with no sum made
+--   same_at           a column of a vector whose columns are all the same
 --   columns_from      columns by their places, and digester-columns by their names
 --   added-..          the sum: its length, a column
 --   Low, within-low   a table of low ceilings bounds every column
@@ -17,9 +18,9 @@ use native.Mathlib.Nat.{le_trans, zero-add, add-zero, add-suc, suc-add}
 use native.Mathlib.Numerals.{add-one}
 use native.Mathlib.Omega.{arith}
 use lib.Dec.{leb}
-use lib.ListN.{length, get_or, take, drop, set, length-set, drop_of_length-le}
+use lib.ListN.{length, get_or, take, drop, set, replicate, length-set, drop_of_length-le}
 use lib.Seq.{paste-suc, drop-paste, get_or-drop, drop-cons}
-use Rattle.std.proofs.lemmas.Bool.{leb-true, leb-false, le-leb, lt-leb}
+use Rattle.std.proofs.lemmas.Bool.{and_parts, false≢true, leb-true, leb-false, le-leb, lt-leb}
 use Rattle.vectors.specs.Columns.{digester, digester_columns, within, Below, BelowFrom, added, fits}
 
 -- ---- a loop that fills
@@ -67,18 +68,13 @@ module _ {A : Type 0} where
 
 -- ---- ceilings
 
--- a conjunction that holds: the first part, and the second
-pub both_true : (a b : Bool) → (a && b) ≡ true → (a ≡ true) × (b ≡ true)
-both_true true b e = (refl, e)
-both_true false b e = (e, absurd (let z : ◌≡◌ {A = ℕ} 0 1 = cc in omega arith))
-
 -- where the test holds, it holds of each column
 pub within-column : (cs v : List ℕ) (i : ℕ) → within cs v ≡ true → get_or v i 0 ≤ get_or cs i 0
 unfolding within
 within-column cs [] i e = zero-le
-within-column [] (x ∷ v) i e = absurd (let z : ◌≡◌ {A = ℕ} 0 1 = cc in omega arith)
-within-column (c ∷ cs) (x ∷ v) zero e = leb-true x c (both_true (leb x c) (within cs v) e).0
-within-column (c ∷ cs) (x ∷ v) (suc i) e = within-column cs v i (both_true (leb x c) (within cs v) e).1
+within-column [] (x ∷ v) i e = absurd (false≢true e)
+within-column (c ∷ cs) (x ∷ v) zero e = leb-true x c (and_parts (leb x c) (within cs v) e).0
+within-column (c ∷ cs) (x ∷ v) (suc i) e = within-column cs v i (and_parts (leb x c) (within cs v) e).1
 
 -- where a column is above its ceiling, the test fails
 pub within-above : (cs v : List ℕ) (i : ℕ) → get_or cs i 0 < get_or v i 0 → within cs v ≡ false
@@ -134,7 +130,8 @@ pub below-within : (cs v : List ℕ) → length v ≤ length cs → Below cs v �
 unfolding within
 below-within cs v n b = go 0 cs v n (λ j. ap (λ (k : ℕ). get_or v k 0) (sym (zero-add j))) b
   where
-    go : (i : ℕ) (ds w : List ℕ) → length w ≤ length ds → ((j : ℕ) → get_or w j 0 ≡ get_or v (i + j) 0) → BelowFrom i ds v → within ds w ≡ true
+    go : (i : ℕ) (ds w : List ℕ) → length w ≤ length ds → ((j : ℕ) → get_or w j 0 ≡ get_or v (i + j) 0) → BelowFrom i ds v
+        → within ds w ≡ true
     go i ds [] n e b = refl
     go i [] (x ∷ w) n e b = absurd (omega arith)
     go i (d ∷ ds) (x ∷ w) n e b =
@@ -143,6 +140,12 @@ below-within cs v n b = go 0 cs v n (λ j. ap (λ (k : ℕ). get_or v k 0) (sym 
         (go (suc i) ds w (omega arith) (λ j. e (suc j) ∙ ap (λ (k : ℕ). get_or v k 0) (add-suc i j ∙ sym (suc-add i j))) b.1)
 
 -- ---- columns by their places
+
+-- of a vector whose columns are all the same
+pub same_at : {A : Type 0} (m j : ℕ) (a : A) → get_or (replicate m a) j a ≡ a
+same_at zero j a = refl
+same_at (suc m) zero a = refl
+same_at (suc m) (suc j) a = same_at m j a
 
 -- n columns from the place i on, which compute
 abbrev pub columns_from : ℕ → ℕ → List ℕ → List ℕ
@@ -164,8 +167,8 @@ Low cs = list_all (λ c. leb c 10_000_000_000_000_000) cs ≡ true
 
 low-column : (cs : List ℕ) (i : ℕ) → Low cs → get_or cs i 0 ≤ 10_000_000_000_000_000
 low-column [] i h = zero-le
-low-column (c ∷ cs) zero h = leb-true c _ (both_true (leb c 10_000_000_000_000_000) _ h).0
-low-column (c ∷ cs) (suc i) h = low-column cs i (both_true (leb c 10_000_000_000_000_000) _ h).1
+low-column (c ∷ cs) zero h = leb-true c _ (and_parts (leb c 10_000_000_000_000_000) _ h).0
+low-column (c ∷ cs) (suc i) h = low-column cs i (and_parts (leb c 10_000_000_000_000_000) _ h).1
 
 pub within-low : (cs v : List ℕ) → Low cs → within cs v ≡ true → (i : ℕ) → get_or v i 0 ≤ 10_000_000_000_000_000
 within-low cs v h e i = le_trans (within-column cs v i e) (low-column cs i h)

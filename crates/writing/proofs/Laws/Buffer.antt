@@ -1,11 +1,11 @@
 -- Laws of writing into a buffer. Assumes nothing.
 --
---   put-none    nothing, put anywhere
---   put_first                               bytes at the start
---   put_then                                two writers, one behind the other, are one
---   put_same                                the bytes under another name
---   put-left, put-fits, put-room            bytes that do not fit, and bytes that do
---   answered, filled                        an answer at the start, and the part that it fills
+--   put_first                      bytes at the start
+--   put-none, put-nothing          nothing, put anywhere
+--   put_then                       two writers, one behind the other, are one
+--   put_same                       the bytes under another name
+--   put-left, put-fits, put-room   bytes that do not fit, and bytes that do
+--   answered, filled, behind       an answer at the start, the part that it fills, and the bytes behind it
 use mathlib.Core.List.{List, [], ◌++◌, append_assoc}
 use mathlib.Core.Path.{◌≡◌, sym, ap, subst, ◌∙◌}
 use Prim.Native.Nat.{ℕ, ◌+◌, ◌≤◌, ◌<◌}
@@ -26,17 +26,22 @@ length-put : (d : List ℕ) (at : ℕ) (s : List ℕ) → at + length s ≤ leng
 unfolding put_at
 length-put d at s h = simp (length-append, length-drop, length-take-le at d (omega arith)) (omega arith)
 
-put-put : (d : List ℕ) (at : ℕ) (a b : List ℕ) → at + (length a + length b) ≤ length d → put_at (put_at d at a) (at + length a) b ≡ put_at d at (a ++ b)
+put-put : (d : List ℕ) (at : ℕ) (a b : List ℕ) → at + (length a + length b) ≤ length d
+    → put_at (put_at d at a) (at + length a) b ≡ put_at d at (a ++ b)
 unfolding put_at
 put-put d at a b h =
     let L = take at d ++ (a ++ drop (at + length a) d) in
     let l : L ≡ (take at d ++ a) ++ drop (at + length a) d = sym (append_assoc (take at d) a (drop (at + length a) d)) in
     let p : length (take at d ++ a) ≡ at + length a = simp (length-append, length-take-le at d (omega arith)) in
-    let q : take (at + length a) L ≡ take at d ++ a = ap (take (at + length a)) l ∙ take_at (take at d ++ a) (drop (at + length a) d) (at + length a) p in
-    let r : drop (at + length a) L ≡ drop (at + length a) d = ap (drop (at + length a)) l ∙ drop_at (take at d ++ a) (drop (at + length a) d) (at + length a) p in
-    let t : drop (at + length a + length b) L ≡ drop (at + length a + length b) d = sym (drop-drop (length b) (at + length a) L) ∙ ap (drop (length b)) r ∙ drop-drop (length b) (at + length a) d in
+    let q : take (at + length a) L ≡ take at d ++ a =
+    ap (take (at + length a)) l ∙ take_at (take at d ++ a) (drop (at + length a) d) (at + length a) p in
+    let r : drop (at + length a) L ≡ drop (at + length a) d =
+    ap (drop (at + length a)) l ∙ drop_at (take at d ++ a) (drop (at + length a) d) (at + length a) p in
+    let t : drop (at + length a + length b) L ≡ drop (at + length a + length b) d =
+    sym (drop-drop (length b) (at + length a) L) ∙ ap (drop (length b)) r ∙ drop-drop (length b) (at + length a) d in
     let e = add_assoc at (length a) (length b) in
-    let u : drop (at + (length a + length b)) L ≡ drop (at + (length a + length b)) d = ap (λ (k : ℕ). drop k L) (sym e) ∙ t ∙ ap (λ (k : ℕ). drop k d) e in
+    let u : drop (at + (length a + length b)) L ≡ drop (at + (length a + length b)) d =
+    ap (λ (k : ℕ). drop k L) (sym e) ∙ t ∙ ap (λ (k : ℕ). drop k d) e in
     simp (q, u, append_assoc, length-append, add_assoc)
 
 pub put-none : (d : List ℕ) (at : ℕ) (s : List ℕ) → d ≡ put_at d at (take 0 s)
@@ -53,7 +58,10 @@ module _ {d : List ℕ} {at : ℕ} {a : List ℕ} {m : ℕ} {e : List ℕ} where
   put_then {b} {r} {f} p q h =
       record {
         next = omega (arith, p.next, q.next, length-append a b);
-        bytes = q.bytes ∙ ap (λ (x : List ℕ). put_at x m b) p.bytes ∙ ap (λ (j : ℕ). put_at (put_at d at a) j b) p.next ∙ put-put d at a b (omega (arith, p.next, q.next));
+        bytes = q.bytes
+            ∙ ap (λ (x : List ℕ). put_at x m b) p.bytes
+            ∙ ap (λ (j : ℕ). put_at (put_at d at a) j b) p.next
+            ∙ put-put d at a b (omega (arith, p.next, q.next));
       }
 
   pub put_same : {b : List ℕ} → a ≡ b → Put d at a m e → Put d at b m e
@@ -86,3 +94,6 @@ answered {d} {s} p h = record { count = p.next ∙ zero-add (length s); buffer =
 
 pub filled : {d s : List ℕ} {r : ℕ} {e : List ℕ} → Answered d s r e → take r e ≡ s
 filled {d} {s} {r} p = ap (take r) p.buffer ∙ take_at s (drop (length s) d) r (sym p.count)
+
+pub behind : {d s : List ℕ} {r : ℕ} {e : List ℕ} → Answered d s r e → drop r e ≡ drop (length s) d
+behind {d} {s} {r} p = ap (drop r) p.buffer ∙ drop_at s (drop (length s) d) r (sym p.count)

@@ -17,7 +17,7 @@ use lib.Dec.{leb}
 use lib.ListN.{length, length-append}
 use borrow.Author.Tests.{leb-true, leb-false, le-leb, lt-ltb}
 use Rattle.io.specs.Digits.{last_digits, hex_digit_ascii, IsDigitCount}
-use Rattle.vectors.proofs.Laws.Columns.{both_true}
+use Rattle.std.proofs.lemmas.Bool.{and_parts}
 use Rattle.reading.specs.Number.{is_digit, all_digits, value_after, places_from, decimal}
 
 -- a number of more than m + 1 digits has no fewer than m + 2
@@ -86,7 +86,7 @@ decimal-length n = omega (arith, digits-length (places_from 19 n) n, places-le 1
 both : (s t : List ℕ) → all_digits s ≡ true → all_digits t ≡ true → all_digits (s ++ t) ≡ true
 unfolding all_digits
 both [] t p q = q
-both (b ∷ s) t p q = let c = both_true (is_digit b) (all_digits s) p in rw c.0 (both s t c.1 q)
+both (b ∷ s) t p q = let c = and_parts (is_digit b) (all_digits s) p in rw c.0 (both s t c.1 q)
 
 value-append : (n : ℕ) (s t : List ℕ) → value_after n (s ++ t) ≡ value_after (value_after n s) t
 unfolding value_after
@@ -114,7 +114,8 @@ digits_value : (k n : ℕ) → n < 10 ^ k → value_after 0 (last_digits 10 k n)
 unfolding value_after
 digits_value zero n h = omega arith
 digits_value (suc k) n h =
-    let i : value_after 0 (last_digits 10 k (n / 10)) ≡ n / 10 = digits_value k (n / 10) ((div-lt_iff_lt-mul (zero-lt-suc 9)).1 (subst (λ (x : ℕ). n < x) (pow-suc 10 k) h)) in
+    let below = (div-lt_iff_lt-mul (zero-lt-suc 9)).1 (subst (λ (x : ℕ). n < x) (pow-suc 10 k) h) in
+    let i : value_after 0 (last_digits 10 k (n / 10)) ≡ n / 10 = digits_value k (n / 10) below in
     value-append 0 (last_digits 10 k (n / 10)) (hex_digit_ascii (n % 10) ∷ [])
     ∙ ap (λ (m : ℕ). m * 10 + (hex_digit_ascii (n % 10) - 48)) i
     ∙ ap (λ (g : ℕ). n / 10 * 10 + (g - 48)) (last-digit n)

@@ -17,7 +17,7 @@ use lib.Dec.{ltb, eqb}
 use lib.ListN.{get_or}
 use borrow.Author.Tests.{ne_eqb}
 use Rattle.io.specs.Digits.{last_digits, hex_digit_ascii}
-use Rattle.vectors.proofs.Laws.Columns.{both_true}
+use Rattle.std.proofs.lemmas.Bool.{and_parts}
 use Rattle.std.specs.Prelude.{Ok, Err}
 use Rattle.plant.specs.declared.answer.Answer.TheVariants.{Refused, Received, Fed, Settled, Returned, Released, Recycled}
 use Rattle.reading.specs.declared.names.Vector.TheVariants.{Sludge}
@@ -36,7 +36,7 @@ pub one-append : (s t : List ℕ) → One s → One t → One (s ++ t)
 unfolding one_line
 one-append [] t p q = q
 one-append (b ∷ s) t p q =
-    let c = both_true (not (eqb b newline)) (one_line s) p in
+    let c = and_parts (not (eqb b newline)) (one_line s) p in
     rw c.0 (one-append s t c.1 q)
 
 one_byte : (b : ℕ) → (b ≡ newline → ⊥) → One (b ∷ [])
@@ -55,7 +55,8 @@ unfolding one_line
 one-digits zero n = refl
 one-digits (suc k) n =
     let last = n % 10 in
-    one-append (last_digits 10 k (n / 10)) (hex_digit_ascii last ∷ []) (one-digits k (n / 10)) (one_byte (hex_digit_ascii last) (glyph-byte last))
+    one-append (last_digits 10 k (n / 10)) (hex_digit_ascii last ∷ []) (one-digits k (n / 10))
+    (one_byte (hex_digit_ascii last) (glyph-byte last))
 
 pub one-decimal : (n : ℕ) → One (decimal n)
 unfolding decimal
@@ -89,7 +90,7 @@ pub one-columns : (z : Bool) (c : ℕ) (names : List (List ℕ)) (v : List ℕ) 
 unfolding columns_from one_line all_one
 one-columns z c [] v h = refl
 one-columns z c (n ∷ ns) v h =
-    let both = both_true (one_line n) (all_one ns) h in
+    let both = and_parts (one_line n) (all_one ns) h in
     one-append (column_or_none z n (get_or v c 0)) _ (one-or-none z n (get_or v c 0) both.0) (one-columns z (c + 1) ns v both.1)
 
 -- ---- answers
@@ -98,7 +99,7 @@ pub one-told : (ps : List (List ℕ × ℕ)) → all_one (map (λ (p : List ℕ 
 unfolding told_text one_line all_one
 one-told [] h = refl
 one-told (p ∷ ps) h =
-    let both = both_true (one_line p.0) (all_one (map (λ (q : List ℕ × ℕ). q.0) ps)) h in
+    let both = and_parts (one_line p.0) (all_one (map (λ (q : List ℕ × ℕ). q.0) ps)) h in
     one-append (labelled p.0 p.1) _ (one-labelled p.0 p.1 both.0) (one-told ps both.1)
 
 one-released : (v : List ℕ) → One (released_text v)

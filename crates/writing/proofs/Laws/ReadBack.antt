@@ -1,5 +1,6 @@
 -- An answer's text determines the answer. Assumes nothing.
 --
+--   no_digits       no digit stands in a byte string, as a test
 --   scan-label      bytes that are no digits are passed over
 --   scan-number     a number's digits, with no digit behind them, are read as the number
 --   scan-labelled   a label and a number
@@ -16,35 +17,40 @@ use lib.ListN.{length, take, drop, get_or}
 use lib.Seq.{take_all, drop-cons}
 use native.Mathlib.Numerals.{add-one}
 use Rattle.vectors.specs.Units.{milligrams, ticks}
-use Rattle.vectors.proofs.Laws.Columns.{both_true}
+use Rattle.std.proofs.lemmas.Bool.{and_parts, false≢true}
 use Rattle.refusals.specs.declared.Refusal.TheVariants.{Other}
 use Rattle.refusals.specs.Refusal.{number}
 use Rattle.plant.specs.declared.answer.Answer.TheVariants.{Refused, Received, Fed, Settled, Returned, Released, Recycled}
 use Rattle.reading.specs.Text.{ascii, same_bytes, look_up, up_to}
 use Rattle.reading.specs.Number.{is_digit, all_digits, value_after, decimal}
-use Rattle.reading.specs.Names.{sludge_names}
+use Rattle.reading.specs.declared.names.Vector.TheVariants.{Sludge}
+use Rattle.reading.specs.Names.{names_of}
 use Rattle.writing.specs.Answer.{labelled, column_text, column_or_none, columns_from, fed_text, told_text, released_text}
-use Rattle.writing.specs.ReadBack.{no_digits, scan, numbers_in, read_answer, short, ReadBackLaw, ReadColumnsLaw, SameTextLaw}
+use Rattle.writing.specs.ReadBack.{scan, numbers_in, read_answer, short, ReadBackLaw, ReadColumnsLaw, SameTextLaw}
 use Rattle.writing.proofs.Laws.Decimal.{decimal-digits, decimal-value}
 
 -- ---- labels and numbers
+
+unfoldable pub no_digits : List ℕ → Bool
+no_digits [] = true
+no_digits (b ∷ s) = not (is_digit b) && no_digits s
 
 pub scan-label : (l s : List ℕ) → no_digits l ≡ true → numbers_in (l ++ s) ≡ numbers_in s
 unfolding scan no_digits
 scan-label [] s h = refl
 scan-label (b ∷ l) s h =
-    let c = both_true (not (is_digit b)) (no_digits l) h in
+    let c = and_parts (not (is_digit b)) (no_digits l) h in
     go (is_digit b) c.0 ∙ scan-label l s c.1
   where
     go : (t : Bool) → not t ≡ true → cond t (scan true (0 * 10 + (b - 48)) (l ++ s)) (scan false 0 (l ++ s)) ≡ scan false 0 (l ++ s)
-    go true e = absurd (let z : ◌≡◌ {A = ℕ} 0 1 = cc in omega arith)
+    go true e = absurd (false≢true e)
     go false e = refl
 
 scan-digits : (n : ℕ) (x s : List ℕ) → all_digits x ≡ true → scan true n (x ++ s) ≡ scan true (value_after n x) s
 unfolding scan all_digits value_after
 scan-digits n [] s h = refl
 scan-digits n (b ∷ x) s h =
-    let c = both_true (is_digit b) (all_digits x) h in
+    let c = and_parts (is_digit b) (all_digits x) h in
     ap (λ t. cond t (scan true (n * 10 + (b - 48)) (x ++ s)) (n ∷ scan false 0 (x ++ s))) c.0
     ∙ scan-digits (n * 10 + (b - 48)) x s c.1
 
@@ -52,7 +58,7 @@ scan-run : (x s : List ℕ) → 1 ≤ length x → all_digits x ≡ true → sca
 unfolding scan all_digits value_after
 scan-run [] s l h = absurd (omega arith)
 scan-run (b ∷ x) s l h =
-    let c = both_true (is_digit b) (all_digits x) h in
+    let c = and_parts (is_digit b) (all_digits x) h in
     ap (λ t. cond t (scan true (0 * 10 + (b - 48)) (x ++ s)) (scan false 0 (x ++ s))) c.0 ∙ scan-digits (0 * 10 + (b - 48)) x s c.1
 
 -- b is no digit
@@ -76,7 +82,8 @@ unfoldable pub no_digits_in : List (List ℕ) → Bool
 no_digits_in [] = true
 no_digits_in (s ∷ ss) = no_digits s && no_digits_in ss
 
-scan-column : (name : List ℕ) (n : ℕ) (s : List ℕ) → no_digits name ≡ true → short n → numbers_in (column_text name n ++ s) ≡ n ∷ numbers_in s
+scan-column : (name : List ℕ) (n : ℕ) (s : List ℕ) → no_digits name ≡ true → short n
+    → numbers_in (column_text name n ++ s) ≡ n ∷ numbers_in s
 unfolding column_text no_digits scan
 scan-column name n s p h =
     ap numbers_in (append_assoc name (labelled (ascii " ") n ++ ascii ")") s)
@@ -90,7 +97,7 @@ scan-columns : (names : List (List ℕ)) (c : ℕ) (v s : List ℕ) → no_digit
 unfolding columns_from column_or_none no_digits_in
 scan-columns [] c v s p h l = refl
 scan-columns (n ∷ ns) c v s p h l =
-    let both = both_true (no_digits n) (no_digits_in ns) p in
+    let both = and_parts (no_digits n) (no_digits_in ns) p in
     let x = get_or v c 0 in
     let rest = columns_from true (c + 1) ns v in
     ap numbers_in (append_assoc (column_text n x) rest s)
@@ -102,7 +109,7 @@ scan-columns (n ∷ ns) c v s p h l =
 pub columns-read : ReadColumnsLaw
 unfolding released_text no_digits no_digits_in scan
 columns-read v l h =
-    scan-columns sludge_names 0 v (ascii ")") refl h (omega arith)
+    scan-columns (names_of Sludge) 0 v (ascii ")") refl h (omega arith)
     ∙ append-nil (take 13 v)
     ∙ take_all 13 v (omega arith)
 

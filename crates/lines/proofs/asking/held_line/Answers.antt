@@ -1,4 +1,4 @@
--- `lines::asking::held_line_text` meets its contract. Assumes nothing.
+-- `lines::asking::held_line` meets its contract. Assumes nothing.
 use mathlib.Core.Path.{◌≡◌}
 use native.Mathlib.Omega.{arith}
 use Rattle.std.proofs.Common.{rules}

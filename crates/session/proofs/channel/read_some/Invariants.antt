@@ -1,4 +1,4 @@
--- A read that failed took nothing.
+-- Loops of `channel::read_some`: a read that failed took nothing.
 use Rattle.std.proofs.Common.{◌≡◌, length}
 use Rattle.std.specs.Io.KnownBytes.{Keeps}
 use Rattle.session.proofs.channel.read_some.Given as goal

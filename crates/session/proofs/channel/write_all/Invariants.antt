@@ -1,4 +1,4 @@
--- What is written and what is left are the bytes.
+-- Loops of `channel::write_all`: what is written and what is left are the bytes.
 use Rattle.std.proofs.Common.{List, ℕ, ◌≡◌, ◌++◌}
 use Rattle.std.specs.Io.KnownBytes.{Appends}
 use Rattle.session.proofs.channel.write_all.Given as goal

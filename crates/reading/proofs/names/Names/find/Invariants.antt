@@ -1,4 +1,4 @@
--- Loops of `Names::find`.
+-- Loops of `names::Names::find`.
 use mathlib.Core.Path.{◌≡◌}
 use lib.ListN.{drop}
 use Rattle.reading.specs.Names.{column_from, column_of, from_column, unpadded_all}

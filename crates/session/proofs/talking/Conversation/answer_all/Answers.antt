@@ -1,4 +1,4 @@
--- The steps of `answer_all`, by the laws of crates/lines.
+-- `session::talking::Conversation::answer_all` meets its contract, by the laws of crates/lines. Assumes nothing.
 use Rattle.std.proofs.Common.{rules, arith, length, take, ◌≡◌, ◌<◌, ap, sym, subst, ◌∙◌}
 use Rattle.std.specs.Io.KnownBytes.{Appends}
 use Rattle.std.proofs.KnownBytes.{Appends-nil, Appends-trans}

@@ -1,4 +1,5 @@
--- What is carried, and what is written, are those of the run through the bytes that are used, and each turn uses more.
+-- Loops of `talking::Conversation::answer_all`: what is carried, and what is written, are those of the run through the bytes that are
+-- used, and each turn uses more.
 use Rattle.std.proofs.Common.{length, ◌-◌, ◌≡◌, ◌≤◌, take}
 use Rattle.std.specs.Io.KnownBytes.{Appends}
 use Rattle.lines.specs.Session.{core, run}

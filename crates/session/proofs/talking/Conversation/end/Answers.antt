@@ -1,4 +1,4 @@
--- What is written at the end of the session.
+-- `session::talking::Conversation::end` meets its contract. Assumes nothing.
 use Rattle.std.proofs.Common.{rules, ap, ◌∙◌, ◌≡◌, subst, take, length}
 use Rattle.std.proofs.lemmas.Result.{on_ok_weaker}
 use Rattle.std.specs.Io.KnownBytes.{Appends}

@@ -1,4 +1,4 @@
--- Block by block, and at the end of the input.
+-- `session::talking::Conversation::talk_over` meets its contract: block by block, and at the end of the input. Assumes nothing.
 use Rattle.std.proofs.Common.{arith, List, [], ◌++◌, ℕ, take, refl, ap, ◌∙◌, sym, subst, append-nil}
 use Rattle.std.proofs.lemmas.Result.{on_ok_weaker}
 use Rattle.std.specs.Io.KnownBytes.{Appends}

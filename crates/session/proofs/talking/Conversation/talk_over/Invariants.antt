@@ -1,5 +1,5 @@
--- Between blocks no answer is left to write, the input's buffer keeps its length, and of the bytes that were read so far, what is carried
--- and what is written are those of the run through them.
+-- Loops of `talking::Conversation::talk_over`: between blocks no answer is left to write, the input's buffer keeps its length, and of the
+-- bytes that were read so far, what is carried and what is written are those of the run through them.
 use Rattle.std.proofs.Common.{List, ℕ, ◌≡◌, ◌≤◌, length}
 use Rattle.std.specs.Io.KnownBytes.{Appends, Consumes}
 use Rattle.lines.specs.Session.{start, core, run}

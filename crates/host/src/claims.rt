@@ -1,0 +1,6 @@
+// The laws of this crate's definitions, as the contract of a function that does nothing: they are proved, or the crate is not.
+ghost use Rattle.host.specs.Record.{ColumnsLaw};
+
+pub fn laws_hold()
+    ensures { ColumnsLaw }
+{}

@@ -1,0 +1,20 @@
+-- `interface::claims::laws_hold` meets its contract. Assumes nothing.
+use Rattle.interface.proofs.Laws.Feed.{covered-law, short-law, feed-keeps}
+use Rattle.interface.proofs.Laws.Return.{return-keeps}
+use Rattle.interface.proofs.Laws.Plants.{plants-hold}
+use Rattle.interface.proofs.claims.laws_hold.Goals as goal
+
+pub returns-clause-covered : goal.returns-clause-covered
+returns-clause-covered c = covered-law
+
+pub returns-clause-short : goal.returns-clause-short
+returns-clause-short c = short-law
+
+pub returns-clause-feed : goal.returns-clause-feed
+returns-clause-feed c = feed-keeps
+
+pub returns-clause-back : goal.returns-clause-back
+returns-clause-back c = return-keeps
+
+pub returns-clause-plants : goal.returns-clause-plants
+returns-clause-plants c = plants-hold

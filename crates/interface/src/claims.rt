@@ -1,0 +1,11 @@
+// The laws of this crate's definitions, as the contract of a function that does nothing: they are proved, or the crate is not.
+ghost use Rattle.interface.specs.Laws.{CoveredLaw, ShortLaw, FeedLaw, ReturnLaw};
+ghost use Rattle.interface.specs.Plants.{PlantsHold};
+
+pub fn laws_hold()
+    ensures covered { CoveredLaw }
+    ensures short { ShortLaw }
+    ensures feed { FeedLaw }
+    ensures back { ReturnLaw }
+    ensures plants { PlantsHold }
+{}

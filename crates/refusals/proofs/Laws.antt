@@ -1,0 +1,2 @@
+-- Laws of refusals.
+pub mod Refusal
