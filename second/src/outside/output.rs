@@ -2,7 +2,7 @@
 //! reader. What can be written later is written; where nothing more can be, a message
 //! is asked for, and an output that is a beginning of the right one.
 
-use super::inputs::{long_session, mixed_lines, right_output};
+use super::inputs::{long_session, mixed_lines, right_answers, right_output};
 use super::system::{self, SIGPIPE, SIGXFSZ};
 use super::watched::Watched;
 use super::*;
@@ -22,6 +22,7 @@ pub const TRIALS: &[Trial] = &[
     ("slow-reader", slow_reader),
     ("slow-reader-at-rest", slow_reader_at_rest),
     ("slow-reader-of-a-socket", slow_reader_of_a_socket),
+    ("one-byte-taken", one_byte_taken),
     ("closed-output", closed_output),
     ("interrupted-write", interrupted_write),
     ("interrupted-write-to-a-socket", interrupted_write_to_a_socket),
@@ -220,6 +221,35 @@ fn slow_reader_of_a_socket(program: &Program) -> Verdict {
     let right = &long_session().right;
     let came = read_slowly(source, right);
     gives_all(right, &(came, running.end()))
+}
+
+/// Lines whose answers have this many bytes: releases, then feeds and receives to the byte.
+fn lines_answered_by(count: usize) -> Vec<u8> {
+    let [release, feed, receive] = ["(release 1000)\n", "(feed 0)\n", "(receive)\n"];
+    let length = |line: &str| right_answers(line.as_bytes()).len();
+    let releases = (count - 200) / length(release);
+    let rest = count - releases * length(release);
+    let receives = (0..).find(|n| (rest - n * length(receive)) % length(feed) == 0).unwrap_or(0);
+    let feeds = (rest - receives * length(receive)) / length(feed);
+    [release.repeat(releases), receive.repeat(receives), feed.repeat(feeds)].concat().into()
+}
+
+/// A pipe that does not block, a page long and full but for one byte: the first write takes
+/// that byte alone, and everything arrives.
+fn one_byte_taken(program: &Program) -> Verdict {
+    let input = lines_answered_by(4097);
+    let mut command = program.command();
+    command.stdin(Stdio::piped());
+    system::not_blocking(&mut command, 1);
+    let mut running = Watched::start(command)?;
+    let (mut to, source) = (running.take_input(), running.take_output());
+    let before = system::fill_but_one(&source)?;
+    to.write_all(&input)?;
+    sleep(milliseconds(300));
+    drop(to);
+    let right = right_output(&input);
+    let came = collected(source, &[right.clone(), vec![0; before]].concat());
+    gives_all(&right, &(came.get(before..).unwrap_or_default().to_vec(), running.end()))
 }
 
 /// No output at all: a message, at once.

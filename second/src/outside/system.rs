@@ -2,7 +2,9 @@
 //! files, limit and signals set before its program begins, signals sent to it, and
 //! what /proc tells of it. The numbers are those of x86-64.
 
-use std::io::{Error, Result};
+use std::fs::File;
+use std::io::{Error, Result, Write};
+use std::os::fd::{AsRawFd, RawFd};
 use std::os::unix::process::CommandExt;
 use std::process::Command;
 
@@ -21,6 +23,7 @@ const SIG_IGN: usize = 1;
 const F_GETFL: i32 = 3;
 const F_SETFL: i32 = 4;
 const O_NONBLOCK: i32 = 0o4000;
+const F_SETPIPE_SZ: i32 = 1031;
 const RLIMIT_FSIZE: i32 = 1;
 
 /// A limit as the C library takes it: the one that holds, and the highest it may be set to.
@@ -119,4 +122,14 @@ pub fn processor_time(pid: u32) -> Option<u64> {
     let fields = stat(pid)?;
     let part = |place: usize| fields.get(place)?.parse::<u64>().ok();
     Some(part(11)? + part(12)?)
+}
+
+/// Makes a pipe one page long, whose end this is, and fills it but for one byte; gives the
+/// count of bytes that stand in it then.
+pub fn fill_but_one(end: &impl AsRawFd) -> Result<usize> {
+    let fd: RawFd = end.as_raw_fd();
+    let page = checked(unsafe { c::fcntl(fd, F_SETPIPE_SZ, 4096) })? as usize;
+    let mut to = File::options().write(true).open(format!("/proc/self/fd/{fd}"))?;
+    to.write_all(&vec![b'.'; page - 1])?;
+    Ok(page - 1)
 }
