@@ -99,7 +99,7 @@
  * made by jilghvani_fresh or jilghvani_make. JILGHVANI_COLUMNS, which was a
  * record's length, is gone, so that none is 52 long by it. While the version's first
  * number is 0, the shared library's soname has the second one too, as
- * libjilghvani.so.0.12, so that the loader does not start a host with a library that
+ * libjilghvani.so.0.13, so that the loader does not start a host with a library that
  * it was not linked for. The archive has no such guard.
  */
 #ifndef JILGHVANI_H
@@ -113,9 +113,9 @@ extern "C" {
 #endif
 
 /* The version of this header, and its three numbers. */
-#define JILGHVANI_VERSION "0.12.0"
+#define JILGHVANI_VERSION "0.13.0"
 #define JILGHVANI_VERSION_MAJOR 0
-#define JILGHVANI_VERSION_MINOR 12
+#define JILGHVANI_VERSION_MINOR 13
 #define JILGHVANI_VERSION_PATCH 0
 
 /* Sizes, and the places of columns and figures: record[JILGHVANI_DIGESTER_AT +
@@ -211,7 +211,7 @@ enum jilghvani_refusal {
     JILGHVANI_COLUMN_ABOVE_CEILING = 3,
     JILGHVANI_FEED_NITROGEN_SHORT = 4,
     JILGHVANI_RETURN_NITROGEN_SHORT = 5,
-    JILGHVANI_BURNT_ABOVE_AVAILABLE = 6,
+    /* 6 had a name before 0.13.0; no call gives it, and it is not used again */
     JILGHVANI_COD_OPEN = 7,
     JILGHVANI_TKN_DIFFERS = 8,
     JILGHVANI_CARRIED_DIFFERS = 9,
@@ -240,8 +240,6 @@ static inline const char *jilghvani_refusal_text(uint64_t refusal)
         return "the sludge has too little nitrogen for its inerts";
     case JILGHVANI_RETURN_NITROGEN_SHORT:
         return "the digester has too little nitrogen for the inerts that return";
-    case JILGHVANI_BURNT_ABOVE_AVAILABLE:
-        return "more COD would be burnt than there is to burn";
     case JILGHVANI_COD_OPEN:
         return "the proposal's COD and the gas are not the digester's COD";
     case JILGHVANI_TKN_DIFFERS:

@@ -91,9 +91,6 @@ pub fn feed(figures: &Figures, v: &Asm1) -> Result<(Digester, FeedTold), Refusal
     if inerts.need > inerts.pool + v[asm1::SNH] {
         return Err(Refusal::FeedNitrogenShort);
     }
-    if burn.burnt > burn.available {
-        return Err(Refusal::BurntAboveAvailable);
-    }
     let mut out = partition(figures, v, &left, &inerts);
     out[digester::SAA] = saa;
     out[digester::SSU] = left[0] - saa;

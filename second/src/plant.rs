@@ -18,7 +18,7 @@ pub enum Refusal {
     ColumnAboveCeiling = 3,
     FeedNitrogenShort = 4,
     ReturnNitrogenShort = 5,
-    BurntAboveAvailable = 6,
+    // 6 is not used again (E8).
     CodOpen = 7,
     TknDiffers = 8,
     CarriedDiffers = 9,

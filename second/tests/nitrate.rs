@@ -1,7 +1,8 @@
-//! Request E4 of document 02: two facts of stage 1, with A the COD that could be burnt and o the
-//! oxygen reduced. Where 286 × sno is at most 10^6 × (A - o), the nitrate is covered: all of it is
-//! reduced. Where it is more, the nitrate is short: all of A is burnt. By worked numbers, on a
-//! grid, and on the vectors of the random trials, where equality has to be met as well.
+//! Requests E4 and E8 of document 02: three facts of stage 1, with A the COD that could be burnt
+//! and o the oxygen reduced. No more than A is burnt. Where 286 × sno is at most 10^6 × (A - o),
+//! the nitrate is covered: all of it is reduced. Where it is more, the nitrate is short: all of A
+//! is burnt. By worked numbers, on a grid, and on the vectors of the random trials, where equality
+//! has to be met as well.
 
 use second::convert;
 use second::figures::{Figures, HOUSE};
@@ -93,13 +94,14 @@ struct Met {
 }
 
 impl Met {
-    /// Checks the two facts on a vector within its ceilings, and what the feed makes by them, in
+    /// Checks the three facts on a vector within its ceilings, and what the feed makes by them, in
     /// whole numbers without a ceiling; counts the vector.
     fn check(&mut self, figures: &Figures, v: &Asm1) {
         let available: u128 = [SS, XS, XBH, XBA].map(|column| u128::from(v[column])).iter().sum();
         let cod = 1_000_000 * available.saturating_sub(v[SO].into());
         let nitrate = 286 * u128::from(v[SNO]);
         let burn = convert::burn(v);
+        assert!(u128::from(burn.burnt) <= available, "{v:?}");
         let fed = convert::feed(figures, v).ok().map(|(out, _)| out);
         if nitrate <= cod {
             assert_eq!(burn.nitrate, v[SNO], "{v:?}");

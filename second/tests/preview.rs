@@ -439,7 +439,7 @@ impl Met {
         }
     }
 
-    /// Asks that each was met so often; refusal 6 is never met.
+    /// Asks that each was met so often, and 6, which is not used again, never.
     fn ask(&self, often: u32) {
         let refused = [1, 2, 3, 4, 5, 7, 8, 9, 10, 11, 15].map(|number| self.refused[number]);
         assert!(self.accepted.iter().chain(&refused).all(|&count| count >= often), "{self:?}");

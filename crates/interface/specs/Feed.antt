@@ -4,7 +4,7 @@
 --   ceil                        a quotient rounded up
 --   stage1 .. stage5            the stages, each with its symbols of document 01: A o r D, P, q P' H', R
 --   fed_vector                  the digester vector that the stages give
---   feed_asm1, feed_of          the whole conversion: refusal 4 (FeedShort), refusal 6 (Overburnt), or the vector and the numbers told
+--   feed_asm1, feed_of          the whole conversion: refusal 4 (FeedShort), or the vector and the numbers told
 --
 -- Where document 01 parts from 004:
 --   counts are whole, and each definition says where a leftover goes;
@@ -12,7 +12,7 @@
 --   a shortage of nitrogen for the inerts refuses the feed, where 004 maps less inert COD, and ammonia counts as cover after the pool.
 use Rattle.std.specs.Prelude.{Bool, cond, ◌&&◌, Result, Ok, Err, List, ℕ, ◌+◌, ◌-◌, ◌*◌, ◌/◌, min, ltb, eqb}
 use Rattle.refusals.specs.declared.Refusal.{Refusal}
-use Rattle.refusals.specs.declared.Refusal.TheVariants.{FeedShort, Overburnt}
+use Rattle.refusals.specs.declared.Refusal.TheVariants.{FeedShort}
 use Rattle.vectors.specs.declared.figures.Figures.{Figures}
 use Rattle.interface.specs.declared.feed.Fed.{Fed}
 use Rattle.vectors.specs.Columns.{Asm1, asm1, Digester, digester_columns}
@@ -182,13 +182,12 @@ feed_taken v s =
       vector = digester_columns (fed_vector v s);
     }
 
--- 4 where q > P + snh, else 6 where D > A, else the conversion
+-- 4 where q > P + snh, else the conversion. No test that D is at most A: it always is (document 02, E8; `BurntLaw`).
 unfoldable pub feed_asm1 : Figures → Asm1 → Result Fed Refusal
 feed_asm1 f v =
     let s = stages f v in
     cond s.s4.short (Err FeedShort)
-    (cond (ltb s.s1.A s.s1.D) (Err Overburnt)
-    (Ok (feed_taken v s)))
+    (Ok (feed_taken v s))
 
 -- the same of an array's columns
 abbrev pub feed_of : Figures → List ℕ → Result Fed Refusal

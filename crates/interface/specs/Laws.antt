@@ -1,11 +1,12 @@
 -- The laws of the conversions: what the rest of the repository, and a reader, may rely on. proofs/Laws proves each.
 --
+--   BurntLaw        a feed burns no more COD than it has to burn
 --   CoveredLaw      where COD covers the nitrate of a feed, all of the nitrate is reduced
 --   ShortLaw        where COD is short for it, all of the COD is burnt
 --   FeedLaw         an accepted feed conversion keeps COD but for what it burns, TKN, and oxygen and nitrate but for what it reduces
 --   ReturnLaw       an accepted return conversion keeps COD but for what it strips, TKN, oxygen and nitrate
 --
--- They hold for every permitted set of figures (the first two have none) and every vector, also above the ceilings.
+-- They hold for every permitted set of figures (stage 1, and so the first three, have none) and every vector, also above the ceilings.
 use Rattle.std.specs.Prelude.{Ok, List, ◌≡◌, ℕ, ◌+◌, ◌-◌, ◌*◌, ◌≤◌, ◌<◌}
 use Rattle.vectors.specs.declared.figures.Figures.{Figures}
 use Rattle.interface.specs.declared.feed.Fed.{Fed}
@@ -17,7 +18,11 @@ use Rattle.vectors.specs.Totals.{digester_nitrate}
 use Rattle.interface.specs.Feed.{nitrate_rule, stage1, feed_of}
 use Rattle.interface.specs.Return.{return_of}
 
--- ---- stage 1: document 02, E4
+-- ---- stage 1: document 02, E8 and E4
+
+-- E8, the reason why nothing tests it and no refusal has the number 6: D ≤ A
+abbrev pub BurntLaw : Type 0
+BurntLaw = (v : Asm1) → let s = stage1 nitrate_rule v in s.D ≤ s.A
 
 -- 286 × sno ≤ 10⁶ × (A − o): r = sno
 abbrev pub CoveredLaw : Type 0

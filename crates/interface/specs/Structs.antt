@@ -31,7 +31,6 @@ LowDigester d = Below digester_ceilings (digester_columns (digester_counts d))
 -- ---- feed
 
 pub record Demands (d : Demand) (s : Stage1) : Type 0 where
-  pub A : d.a.0 ≡ s.A
   pub o : d.o.0 ≡ s.o
   pub r : d.r.0 ≡ s.r
   pub D : d.d.0 ≡ s.D

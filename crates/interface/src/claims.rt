@@ -1,8 +1,9 @@
 // The laws of this crate's definitions, as the contract of a function that does nothing: they are proved, or the crate is not.
-ghost use Rattle.interface.specs.Laws.{CoveredLaw, ShortLaw, FeedLaw, ReturnLaw};
+ghost use Rattle.interface.specs.Laws.{BurntLaw, CoveredLaw, ShortLaw, FeedLaw, ReturnLaw};
 ghost use Rattle.interface.specs.Plants.{PlantsHold};
 
 pub fn laws_hold()
+    ensures burnt { BurntLaw }
     ensures covered { CoveredLaw }
     ensures short { ShortLaw }
     ensures feed { FeedLaw }

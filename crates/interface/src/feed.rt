@@ -21,7 +21,7 @@ pub struct Fed {
     pub vector: [u64; 26],
 }
 
-// The feed conversion. Refusals 4 and 6. It asks for a permitted set and a vector within its ceilings, which their types do not say
+// The feed conversion. Refusal 4. It asks for a permitted set and a vector within its ceilings, which their types do not say
 // (figures.rt and vector.rt of vectors).
 pub fn feed_of(f: Figures, c: [u64; 13]) -> Result<Fed, Refusal>
     requires { (Permitted f) × (Below asm1_ceilings c) }
@@ -45,7 +45,7 @@ struct Drawn {
 
 // The conversion, and its stages in their order. A method that reads many columns names the vector and the figures once.
 impl Drawn {
-    // 4 where q > P + snh, else 6 where D > A, else the five stages.
+    // 4 where q > P + snh, else the five stages. D is at most A of itself (`BurntLaw`).
     fn convert(self) -> Result<Fed, Refusal>
         ensures { result ≡ feed_asm1 self.figures (asm1_counts self.vector) }
     {
@@ -54,9 +54,6 @@ impl Drawn {
         let acids = self.acids(left);
         let pool = self.pool(acids);
         let inerts = self.inerts(pool)?;
-        if demand.a < demand.d {
-            return Err(Refusal::Overburnt);
-        }
         let remains = self.remains(left, inerts);
         let staged = Staged {
             drawn: self,
@@ -80,7 +77,6 @@ impl Drawn {
         let x = a.less(o);
         if is_covered(v.sno, x) {
             return Demand {
-                a,
                 o,
                 r: v.sno,
                 d: o.plus(nitrate_cod(v.sno)),
@@ -177,7 +173,7 @@ impl Drawn {
     }
 }
 
-// The results of all stages of a vector that neither refusal meets.
+// The results of all stages of a vector that refusal 4 does not meet.
 #[derive(Clone, Copy)]
 struct Staged {
     drawn: Drawn,
@@ -240,10 +236,9 @@ impl Staged {
     }
 }
 
-// A, o, r and D of stage 1.
+// o, r and D of stage 1.
 #[derive(Clone, Copy)]
 pub struct Demand {
-    pub a: Milligrams,
     pub o: Milligrams,
     pub r: Ticks,
     pub d: Milligrams,
@@ -318,9 +313,9 @@ fn nitrate_cod(n: Ticks) -> Milligrams
 
 // The demand where COD is short for the nitrate: r of it is reduced, and all of the COD is burnt.
 fn short_demand(a: Milligrams, o: Milligrams, r: Ticks) -> Demand
-    ensures { ((result.a ≡ a) × (result.o ≡ o)) × ((result.r ≡ r) × (result.d ≡ a)) }
+    ensures { (result.o ≡ o) × ((result.r ≡ r) × (result.d ≡ a)) }
 {
-    Demand { a, o, r, d: a }
+    Demand { o, r, d: a }
 }
 
 // 1 where oxygen or nitrate is carried through, else 0.

@@ -1,12 +1,12 @@
--- Refusals: document 01, "What the link sends away", and document 02, E6 and E7.
+-- Refusals: document 01, "What the link sends away", and document 02, E6 to E8.
 --
 --   Refusal     the enum of the code
 --   number      its number in the table
 --   number_of   the same, and 0 where there is none
 use Rattle.std.specs.Prelude.{ℕ, Option, None, Some}
 use Rattle.refusals.specs.declared.Refusal.{Refusal}
-use Rattle.refusals.specs.declared.Refusal.TheVariants.{RecordAbove, NotThousandths, ColumnAbove, FeedShort, ReturnShort, Overburnt}
-use Rattle.refusals.specs.declared.Refusal.TheVariants.{CodOpen, TknOpen, CarriedOpen, TankAbove, NoForm, ShortBuffer, NoAmount}
+use Rattle.refusals.specs.declared.Refusal.TheVariants.{RecordAbove, NotThousandths, ColumnAbove, FeedShort, ReturnShort, CodOpen}
+use Rattle.refusals.specs.declared.Refusal.TheVariants.{TknOpen, CarriedOpen, TankAbove, NoForm, ShortBuffer, NoAmount}
 use Rattle.refusals.specs.declared.Refusal.TheVariants.{CountAbove, NotPermitted, Other}
 
 abbrev pub number : Refusal → ℕ
@@ -15,7 +15,7 @@ number NotThousandths = 2  -- k is not 1 to 1000
 number ColumnAbove = 3  -- a column that is received or proposed is above its ceiling
 number FeedShort = 4  -- inert nitrogen is short on feed
 number ReturnShort = 5  -- and on return
-number Overburnt = 6  -- burnt COD is above A
+-- 6 was document 01's for burnt COD above A, and is not used again: no feed burns more than A (E8; BurntLaw of interface)
 number CodOpen = 7  -- the proposal's COD is open
 number TknOpen = 8  -- its TKN differs
 number CarriedOpen = 9  -- co or cn differs

@@ -5,8 +5,8 @@ ghost use Rattle.std.specs.Prelude.{true, false, ◌≡◌, OnOk, IfErr};
 ghost use Rattle.refusals.specs.Refusal.{number};
 ghost use Rattle.refusals.specs.Laws.{SameLaw};
 
-// A refusal; the table's number stands behind each. A host or a line may give any number, and of one that the table has not, the number
-// is all that is known.
+// A refusal; the table's number stands behind each. 6, that more COD would be burnt than there is, is not used again (document 02, E8).
+// A host or a line may give any number, and of one that the table has not, the number is all that is known.
 #[derive(Clone, Copy, PartialEq, Eq)]
 pub enum Refusal {
     // 1: a column of the record is above its ceiling.
@@ -19,8 +19,6 @@ pub enum Refusal {
     FeedShort,
     // 5: a return is.
     ReturnShort,
-    // 6: more COD would be burnt than there is.
-    Overburnt,
     // 7: the proposal's COD is open.
     CodOpen,
     // 8: its TKN is.
@@ -53,7 +51,6 @@ impl Refusal {
             Refusal::ColumnAbove => 3,
             Refusal::FeedShort => 4,
             Refusal::ReturnShort => 5,
-            Refusal::Overburnt => 6,
             Refusal::CodOpen => 7,
             Refusal::TknOpen => 8,
             Refusal::CarriedOpen => 9,

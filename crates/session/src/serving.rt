@@ -33,7 +33,7 @@ fn serve_word<R: Env + Input + Print + Eprint + Clock>(rt: &R) -> Result<(), Fai
             return write_all(rt, &mut writer(rt), HELP);
         }
         if is_word(rt, b"--version") {
-            return write_all(rt, &mut writer(rt), b"sludgeline 0.12.0\n");
+            return write_all(rt, &mut writer(rt), b"sludgeline 0.13.0\n");
         }
     }
     let _ = eprintln!(rt; "sludgeline: unknown argument (--help tells what there is)");
@@ -129,7 +129,7 @@ settle: si ssu saa sfa sva sbu spro sac sh2 sch4 xi xc xch xpr xli xsu xaa xfa\n
 \x20\x20xc4 xpro xac xh2 sin sic co cn\n\
 Each line is answered (ok ..), or (no N) and nothing is changed, where\n\
 \x201, 3 a column of the record, one handed over, is above its ceiling\n\
-\x202 k is not 1 to 1000            6 more COD would be burnt than there is\n\
+\x202 k is not 1 to 1000\n\
 \x204, 5 a feed, a return is short of nitrogen for its inerts\n\
 \x207, 8, 9 the proposal's COD, TKN, co or cn is not the digester's\n\
 10 a tank's column would pass its ceiling: 10^12 mg or mmol, 10^16 ticks\n\

@@ -69,7 +69,7 @@ fn text_for(program: &Program, word: &str) -> Result<String, Trouble> {
 /// program gives.
 fn must_have() -> Vec<String> {
     let forms = ["receive", "feed", "settle", "return", "release", "recycle", "preview"];
-    let numbers = (1..=12).chain([15]).map(|number| number.to_string());
+    let numbers = (1..=5).chain(7..=12).chain([15]).map(|number| number.to_string());
     forms.map(String::from).into_iter().chain(numbers).collect()
 }
 
@@ -80,6 +80,7 @@ fn help(program: &Program) -> Verdict {
     for word in must_have() {
         ask(has.contains(&word.as_str()), || format!("{word} is not in it"))?;
     }
+    ask(!has.contains(&"6"), || "6, which is not used again, is in it".into())?;
     ask(text.contains("--figures"), || "--figures is not in it".into())?;
     let (lines, longest) =
         (text.lines().count(), text.lines().map(|line| line.chars().count()).max());

@@ -2,29 +2,30 @@
 -- Users of a stage go by these laws and not by its text. Assumes nothing.
 --
 --   stage1-..                      ..  stage5-..      what each stage keeps
+--   stage1-burns                   no more COD is burnt than there is, by any rule
 --   stage1-covered, stage1-short   nitrate that COD covers, and nitrate that it is short for, by any rule
---   covered-law, short-law         the same by the rule of document 01: CoveredLaw, ShortLaw
+--   burnt-law, covered-law, ..     the same by the rule of document 01: BurntLaw, CoveredLaw, ShortLaw
 --   stage1-is                      ..  stage5-is      the same numbers, step by step
---   feed-short, ..                 the three outcomes of the conversion
+--   feed-short, feed-taken         the two outcomes of the conversion
 --   feed-accepted                  what an accepted conversion is
 --   feed-keeps                     FeedLaw
 use mathlib.Core.Bool.{Bool, true, false, cond}
 use mathlib.Core.List.{List}
 use mathlib.Core.Path.{◌≡◌, refl, sym}
-use Prim.Native.Nat.{ℕ, ◌+◌, ◌-◌, ◌*◌, ◌/◌, ◌≤◌, ◌<◌, min}
-use native.Mathlib.Nat.{mul_comm, mul-div-le, lt-mul-div-succ, le-div_iff_mul-le, div-lt_iff_lt-mul, div-eq_of_lt-le}
-use native.Mathlib.Nat.{min-eq_left, min-eq_right, le_of_lt}
+use Prim.Native.Nat.{ℕ, zero, suc, ◌+◌, ◌-◌, ◌*◌, ◌/◌, ◌≤◌, ◌<◌, min}
+use native.Mathlib.Nat.{mul_comm, mul-div-le, lt-mul-div-succ, le-div_iff_mul-le, div-lt_iff_lt-mul, div-le_of_le-mul, div-eq_of_lt-le}
+use native.Mathlib.Nat.{min-le_right, min-eq_left, min-eq_right, mul-le-mul_left, le_of_lt}
 use native.Mathlib.Omega.{arith}
 use lib.Dec.{leb, ltb}
 use borrow.Author.Tests.{leb-true, leb-false, ltb-false}
 use Rattle.std.specs.Prelude.{Ok, Err}
-use Rattle.refusals.specs.declared.Refusal.TheVariants.{FeedShort, Overburnt}
+use Rattle.refusals.specs.declared.Refusal.TheVariants.{FeedShort}
 use Rattle.vectors.specs.declared.figures.Figures.{Figures}
 use Rattle.interface.specs.declared.feed.Fed.{Fed}
 use Rattle.vectors.specs.Columns.{Asm1, asm1}
 use Rattle.interface.specs.Feed.{NitrateRule, nitrate_rule, ceil, warn_of, Stage1, Stage2, Stage4}
 use Rattle.interface.specs.Feed.{stage1, stage2, stage3, stage4, stage5, stages, feed_taken, feed_asm1, feed_of}
-use Rattle.interface.specs.Laws.{CoveredLaw, ShortLaw, FeedLaw}
+use Rattle.interface.specs.Laws.{BurntLaw, CoveredLaw, ShortLaw, FeedLaw}
 use Rattle.vectors.proofs.Laws.Units.{afford, share-le}
 
 -- ---- stage 1
@@ -47,6 +48,20 @@ drain-four d a b c e h = join _ _ _ _ _ _ (drain d a b) (drain (d - a - b) c e) 
     join : (w x y z m n : ℕ) → w + x + d ≡ a + b + m → y + z + m ≡ c + e + n → n ≡ 0 → w + x + y + z + d ≡ a + b + c + e
     join w x y z m n p q r = omega arith
 
+-- a quotient rounded up is at most x where its dividend is at most n times x
+ceil-le : (m n x : ℕ) → m ≤ n * x → ceil m n ≤ x
+ceil-le m zero x h = div-le_of_le-mul zero (omega arith)
+ceil-le m (suc n) x h = at-most (m + (suc n - 1)) (omega arith)
+  where
+    at-most : (k : ℕ) → k < (1 + x) * suc n → k / suc n ≤ x
+    at-most k under =
+        let one : zero < suc n = omega arith in
+        omega (arith, (div-lt_iff_lt-mul one).1 under)
+
+-- n times what is at most a quotient by n
+reduced-le : (r n m : ℕ) → r ≤ m / n → n * r ≤ m
+reduced-le r n m h = omega (arith, mul-div-le m n, mul-le-mul_left n h)
+
 module _ (n : NitrateRule) (v : Asm1) where
   pub stage1-oxygen : (stage1 n v).co + (stage1 n v).o ≡ v.so
   unfolding stage1
@@ -60,10 +75,17 @@ module _ (n : NitrateRule) (v : Asm1) where
   unfolding stage1
   stage1-burnt = refl
 
-  pub stage1-cod : (stage1 n v).D ≤ (stage1 n v).A
-      → (stage1 n v).ss + (stage1 n v).xs + (stage1 n v).xbh + (stage1 n v).xba + (stage1 n v).D ≡ v.ss + v.xs + v.xbh + v.xba
+  -- r ≤ ticks × x / cod, so the COD for r is at most x; rounding it up stays there, as x is whole
+  pub stage1-burns : (stage1 n v).D ≤ (stage1 n v).A
   unfolding stage1
-  stage1-cod h = drain-four (stage1 n v).D v.ss v.xs v.xbh v.xba h
+  stage1-burns =
+      let x = (stage1 n v).A - (stage1 n v).o in
+      let r = min-le_right v.sno (n.ticks * x / n.cod) in
+      omega (arith, ceil-le _ n.ticks x (reduced-le _ n.cod (n.ticks * x) r))
+
+  pub stage1-cod : (stage1 n v).ss + (stage1 n v).xs + (stage1 n v).xbh + (stage1 n v).xba + (stage1 n v).D ≡ v.ss + v.xs + v.xbh + v.xba
+  unfolding stage1
+  stage1-cod = drain-four (stage1 n v).D v.ss v.xs v.xbh v.xba stage1-burns
 
 -- ---- stage 1, nitrate: for every rule of at least one milligram, which reduces at least as many ticks
 
@@ -97,6 +119,9 @@ module _ (n : NitrateRule) (one : 1 ≤ n.cod) where
     stage1-short le h =
         let x = (stage1 n v).A - (stage1 n v).o in
         rw (reduced-short v.sno x h, reduced-cod x le) (omega arith)
+
+pub burnt-law : BurntLaw
+burnt-law v = stage1-burns nitrate_rule v
 
 pub covered-law : CoveredLaw
 covered-law v h = stage1-covered nitrate_rule (omega arith) v h
@@ -215,43 +240,31 @@ module _ (f : Figures) (v : Asm1) (s1 : Stage1) (s4 : Stage4) where
 
 -- ---- the whole conversion
 
--- an accepted conversion has passed both tests
+-- an accepted conversion has passed the test
 pub record FeedAccepted (f : Figures) (c : List ℕ) (o : Fed) : Type 0 where
   pub covered : (stages f (asm1 c)).s4.short ≡ false
-  pub burns : (stages f (asm1 c)).s1.D ≤ (stages f (asm1 c)).s1.A
   pub is : o ≡ feed_taken (asm1 c) (stages f (asm1 c))
 
-passed : (a b : Bool) (x o : Fed) → cond a (Err FeedShort) (cond b (Err Overburnt) (Ok x)) ≡ Ok o
-    → (a ≡ false) × ((b ≡ false) × (o ≡ x))
-passed true b x o e = absurd (cc e)
-passed false true x o e = absurd (cc e)
-passed false false x o e = (refl, (refl, cc e))
+passed : (a : Bool) (x o : Fed) → cond a (Err FeedShort) (Ok x) ≡ Ok o → (a ≡ false) × (o ≡ x)
+passed true x o e = absurd (cc e)
+passed false x o e = (refl, cc e)
 
 pub feed-accepted : (f : Figures) (c : List ℕ) (o : Fed) → feed_of f c ≡ Ok o → FeedAccepted f c o
 unfolding feed_asm1
 feed-accepted f c o e =
     let s = stages f (asm1 c) in
-    let p = passed s.s4.short (ltb s.s1.A s.s1.D) (feed_taken (asm1 c) s) o e in
-    record { covered = p.0; burns = ltb-false s.s1.A s.s1.D p.1.0; is = p.1.1 }
+    let p = passed s.s4.short (feed_taken (asm1 c) s) o e in
+    record { covered = p.0; is = p.1 }
 
--- a test on numbers that are those of the definition
-pub same_test : {a b a' b' : ℕ} → a ≡ a' → b ≡ b' → ltb a b ≡ ltb a' b'
-same_test p q = rw (p, q)
-
--- the three outcomes
+-- the two outcomes
 module _ (f : Figures) (v : Asm1) where
   pub feed-short : (stages f v).s4.short ≡ true → Err FeedShort ≡ feed_asm1 f v
   unfolding feed_asm1
   feed-short t = rw t
 
-  pub feed-over : (stages f v).s4.short ≡ false → ltb (stages f v).s1.A (stages f v).s1.D ≡ true → Err Overburnt ≡ feed_asm1 f v
+  pub feed-taken : (stages f v).s4.short ≡ false → Ok (feed_taken v (stages f v)) ≡ feed_asm1 f v
   unfolding feed_asm1
-  feed-over t u = rw (t, u)
-
-  pub feed-taken : (stages f v).s4.short ≡ false → ltb (stages f v).s1.A (stages f v).s1.D ≡ false
-      → Ok (feed_taken v (stages f v)) ≡ feed_asm1 f v
-  unfolding feed_asm1
-  feed-taken t u = rw (t, u)
+  feed-taken t = rw t
 
 pub feed-keeps : FeedLaw
 feed-keeps f h c o e =
@@ -264,7 +277,7 @@ feed-keeps f h c o e =
     let inert = stage4-nitrogen f v s.P a.covered in
     rw a.is
     (record {
-      cod = omega (arith, stage1-cod nitrate_rule v a.burns, stage2-cod f v s.s1, rest, stage5-cod f v s.s1 s.s4);
+      cod = omega (arith, stage1-cod nitrate_rule v, stage2-cod f v s.s1, rest, stage5-cod f v s.s1 s.s4);
       tkn = omega (arith, pool, stage4-need f v s.P, inert, stage5-nitrogen f v s.s1 s.s4);
       oxygen = omega (arith, stage1-oxygen nitrate_rule v);
       nitrate = omega (arith, stage1-nitrate nitrate_rule v);

@@ -1,8 +1,11 @@
 -- `interface::claims::laws_hold` meets its contract. Assumes nothing.
-use Rattle.interface.proofs.Laws.Feed.{covered-law, short-law, feed-keeps}
+use Rattle.interface.proofs.Laws.Feed.{burnt-law, covered-law, short-law, feed-keeps}
 use Rattle.interface.proofs.Laws.Return.{return-keeps}
 use Rattle.interface.proofs.Laws.Plants.{plants-hold}
 use Rattle.interface.proofs.claims.laws_hold.Goals as goal
+
+pub returns-clause-burnt : goal.returns-clause-burnt
+returns-clause-burnt c = burnt-law
 
 pub returns-clause-covered : goal.returns-clause-covered
 returns-clause-covered c = covered-law

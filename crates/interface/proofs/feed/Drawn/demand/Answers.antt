@@ -18,7 +18,7 @@ returns-then-is_covered c =
     let q =
     stage1-covered-is nitrate_rule v (omega arith) p.1 p.2 c.is_covered.ensures c.if-is_covered.true
     c.nitrate_cod.ensures.0 c.plus-then-is_covered.ensures.0 in
-    record { A = p.0; o = p.1; r = q.0; D = q.1 }
+    record { o = p.1; r = q.0; D = q.1 }
 
 pub returns : goal.returns
 returns c =
@@ -31,4 +31,4 @@ returns c =
     stage1-short-is nitrate_rule v (omega arith) (omega arith) p.0 p.2 c.is_covered.ensures
     c.if-is_covered.false c.reducible-r.ensures in
     let e = c.short_demand.ensures in
-    rw (e.0.0, e.0.1, e.1.0, e.1.1) (record { A = p.0; o = p.1; r = q.0; D = q.1 })
+    rw (e.0, e.1.0, e.1.1) (record { o = p.1; r = q.0; D = q.1 })
