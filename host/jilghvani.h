@@ -99,7 +99,7 @@
  * made by jilghvani_fresh or jilghvani_make. JILGHVANI_COLUMNS, which was a
  * record's length, is gone, so that none is 52 long by it. While the version's first
  * number is 0, the shared library's soname has the second one too, as
- * libjilghvani.so.0.13, so that the loader does not start a host with a library that
+ * libjilghvani.so.0.14, so that the loader does not start a host with a library that
  * it was not linked for. The archive has no such guard.
  */
 #ifndef JILGHVANI_H
@@ -113,9 +113,9 @@ extern "C" {
 #endif
 
 /* The version of this header, and its three numbers. */
-#define JILGHVANI_VERSION "0.13.0"
+#define JILGHVANI_VERSION "0.14.0"
 #define JILGHVANI_VERSION_MAJOR 0
-#define JILGHVANI_VERSION_MINOR 13
+#define JILGHVANI_VERSION_MINOR 14
 #define JILGHVANI_VERSION_PATCH 0
 
 /* Sizes, and the places of columns and figures: record[JILGHVANI_DIGESTER_AT +
@@ -378,7 +378,7 @@ uint64_t jilghvani_receive(uint64_t record[JILGHVANI_RECORD],
  *           reduced, nitrate reduced, warn (0 or 1); four zeros where the call is
  *           refused.
  *
- * Record and told must not overlap. Gives 0 or the refusal: 15, 1, 2, 4, 6, 10. */
+ * Record and told must not overlap. Gives 0 or the refusal: 15, 1, 2, 4, 10. */
 uint64_t jilghvani_feed(uint64_t record[JILGHVANI_RECORD], uint64_t k,
                         uint64_t told[4]);
 
@@ -493,7 +493,7 @@ uint64_t jilghvani_sheet(uint64_t record[JILGHVANI_RECORD],
  *           refused.
  *
  * d and told must not overlap each other, figures or v. Gives 0 or the refusal: 15,
- * 3, 4, 6. */
+ * 3, 4. */
 uint64_t jilghvani_asm_to_adm(const uint64_t figures[JILGHVANI_FIGURES],
                               const uint64_t v[JILGHVANI_ASM1],
                               uint64_t d[JILGHVANI_DIGESTER], uint64_t told[4]);

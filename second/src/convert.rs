@@ -3,8 +3,8 @@
 //! any vector by itself, without a record, by any figures.
 //!
 //! `feed` and `give_back` are handed permitted figures and no column above its ceiling. Then
-//! no product or sum here passes 64 bits: the greatest are 10^6 × 4·10^12 and 286 × 10^16; of
-//! those with a figure none passes 10^17, the nitrogen of ten columns.
+//! no product or sum here passes 64 bits: the nitrate that COD can reduce is at
+//! most 3500 × 4·10^12; of those with a figure none passes 10^17, the nitrogen of ten columns.
 
 use crate::figures::Figures;
 use crate::plant::{test_columns, Refusal};
@@ -49,8 +49,8 @@ pub fn burn(v: &Asm1) -> Burn {
     use asm1::*;
     let available = v[SS] + v[XS] + v[XBH] + v[XBA];
     let oxygen = min(v[SO], available);
-    let nitrate = min(v[SNO], 1_000_000 * (available - oxygen) / 286);
-    let burnt = oxygen + (286 * nitrate).div_ceil(1_000_000);
+    let nitrate = min(v[SNO], 3500 * (available - oxygen));
+    let burnt = oxygen + nitrate.div_ceil(3500);
     Burn { burnt, oxygen, nitrate, available }
 }
 
@@ -154,7 +154,7 @@ fn take_in_turn(mut stores: [u64; 3], mut owed: u64) -> Result<[u64; 3], Refusal
     Ok(stores)
 }
 
-/// The feed's conversion of any ASM1 vector by itself, by any figures; tests 15, 3, 4, 6. A
+/// The feed's conversion of any ASM1 vector by itself, by any figures; tests 15, 3, 4. A
 /// column of the digester vector may stand above its ceiling.
 pub fn asm_to_adm(figures: &Figures, v: &Asm1) -> Result<(Digester, FeedTold), Refusal> {
     figures.test()?;

@@ -179,7 +179,7 @@ impl Plant {
         Ok(())
     }
 
-    /// Draws from sludge, converts and adds to the digester; tests 15, 1, 2, 4, 6, 10.
+    /// Draws from sludge, converts and adds to the digester; tests 15, 1, 2, 4, 10.
     pub fn feed(&mut self, k: u64) -> Result<FeedTold, Refusal> {
         self.test_record()?;
         test_thousandths(k)?;

@@ -27,9 +27,9 @@ fn above() -> Plant {
 /// The conversions by themselves are those of the feed and the return.
 #[test]
 fn conversions_of_a_vector() {
-    let (d, told) = convert::asm_to_adm(&HOUSE, &asm1(&[("xba", 1), ("sno", 3497)])).unwrap();
+    let (d, told) = convert::asm_to_adm(&HOUSE, &asm1(&[("xba", 1), ("sno", 3501)])).unwrap();
     assert_eq!(d, digester(&[("cn", 1), ("sin", 880)]));
-    assert_eq!(told.numbers(), [1, 0, 3496, 1]);
+    assert_eq!(told.numbers(), [1, 0, 3500, 1]);
     let d = digester(&[("xi", 8), ("xc", 2), ("sin", 6000), ("sh2", 3), ("sch4", 4)]);
     let v = asm1(&[("xi", 8), ("xs", 2), ("snh", 1760)]);
     assert_eq!(convert::adm_to_asm(&HOUSE, &d), Ok((v, 7)));
@@ -149,10 +149,10 @@ fn calls_on_a_record() {
     numbers::fresh(&mut record);
     assert_eq!(record[..52], [0; 52]);
     assert_eq!(record[52..], [880, 880, 280, 280, 980, 875, 8000, 2000, 2500]);
-    assert_eq!(numbers::receive(&mut record, &asm1(&[("xba", 3), ("sno", 3497)])), 0);
+    assert_eq!(numbers::receive(&mut record, &asm1(&[("xba", 3), ("sno", 3501)])), 0);
     let (mut four, mut one, mut v) = ([9; 4], [9], [9; 13]);
     assert_eq!((numbers::feed(&mut record, 1001, &mut four), four), (2, [0; 4]));
-    assert_eq!((numbers::feed(&mut record, 1000, &mut four), four), (0, [2, 0, 3497, 0]));
+    assert_eq!((numbers::feed(&mut record, 1000, &mut four), four), (0, [2, 0, 3501, 0]));
     assert_eq!(Plant::from_columns(&record).digester, digester(&[("xc", 1), ("sin", 2360)]));
     let d = digester(&[("sch4", 1), ("sin", 2640)]);
     assert_eq!(numbers::settle(&mut record, 1, &d), 7);

@@ -37,11 +37,11 @@ fn fed(sludge: &[(&str, u64)], told: [u64; 4], expected: &[(&str, u64)]) {
 /// Oxygen and nitrate are reduced by ss, then xs; carbohydrate and lipid share one floor.
 #[test]
 fn plants_a_and_b_burn() {
-    let acceptors = [33600, 5000, 100_000_000, 0];
+    let acceptors = [33572, 5000, 100_000_000, 0];
     let a = [("ss", 40000), ("so", 5000), ("sno", 100_000_000)];
-    fed(&a, acceptors, &[("ssu", 6400)]);
+    fed(&a, acceptors, &[("ssu", 6428)]);
     let b = [("ss", 10000), ("xs", 30000), ("so", 5000), ("sno", 100_000_000)];
-    fed(&b, acceptors, &[("xch", 2844), ("xli", 3556)]);
+    fed(&b, acceptors, &[("xch", 2856), ("xli", 3572)]);
 }
 
 /// Soluble organic nitrogen becomes amino acids, and its leftover stays nitrogen.
@@ -65,7 +65,7 @@ fn plants_e_and_f_inerts() {
 #[test]
 fn plants_g_and_h_acceptors_left() {
     fed(&[("xs", 5), ("so", 7), ("sno", 100)], [5, 5, 0, 1], &[("co", 2), ("cn", 100)]);
-    fed(&[("xba", 1), ("sno", 3497)], [1, 0, 3496, 1], &[("cn", 1), ("sin", 880)]);
+    fed(&[("xba", 1), ("sno", 3501)], [1, 0, 3500, 1], &[("cn", 1), ("sin", 880)]);
 }
 
 /// Composites take what nitrogen there is.
@@ -105,10 +105,10 @@ fn session_of_document_01() {
     let input = b"(receive (ss 10000) (xs 30000) (so 5000) (sno 100000000))\n(feed 1000)\n\
         (feed 0)\n(return 1000)\n(release 1000)\n";
     let expected = "(ok receive)\n\
-        (ok feed burnt 33600 oxygen 5000 nitrate 100000000 warn 0)\n\
+        (ok feed burnt 33572 oxygen 5000 nitrate 100000000 warn 0)\n\
         (no 2)\n\
         (ok return stripped 0)\n\
-        (ok release (si 0) (ss 0) (xi 0) (xs 6400) (xbh 0) (xba 0) (xp 0) (so 0) (sno 0) \
+        (ok release (si 0) (ss 0) (xi 0) (xs 6428) (xbh 0) (xba 0) (xp 0) (so 0) (sno 0) \
         (snh 0) (snd 0) (xnd 0) (salk 0))\n\
         (held cod 0 tkn 0 oxygen 0 nitrate 0)\n";
     assert_eq!(printed(input), expected);

@@ -69,13 +69,13 @@ fn returned(figures: &Figures, d: Digester, stripped: u64, expected: &[(&str, u6
     assert_eq!((plant.give_back(1000), plant), after);
 }
 
-/// Plants a, b and g: stage 1 has no figures. b: 6400 are left, 1200 × 6400 / 7000 = 1097.1.
+/// Plants a, b and g: stage 1 has no figures. b: 6428 are left, 1200 × 6428 / 7000 = 1101.9.
 #[test]
 fn dairy_a_b_g() {
     let a = asm1(&[("ss", 40000), ("so", 5000), ("sno", 100_000_000)]);
-    fed(&DAIRY, a, [33600, 5000, 100_000_000, 0], &[("ssu", 6400)]);
+    fed(&DAIRY, a, [33572, 5000, 100_000_000, 0], &[("ssu", 6428)]);
     let b = asm1(&[("ss", 10000), ("xs", 30000), ("so", 5000), ("sno", 100_000_000)]);
-    fed(&DAIRY, b, [33600, 5000, 100_000_000, 0], &[("xch", 1097), ("xli", 5303)]);
+    fed(&DAIRY, b, [33572, 5000, 100_000_000, 0], &[("xch", 1101), ("xli", 5327)]);
     let g = asm1(&[("xs", 5), ("so", 7), ("sno", 100)]);
     fed(&DAIRY, g, [5, 5, 0, 1], &[("co", 2), ("cn", 100)]);
 }
@@ -104,13 +104,13 @@ fn dairy_e_f() {
 /// 1200 × 90 / 7000 = 15.4.
 #[test]
 fn dairy_h_i() {
-    let h = asm1(&[("xba", 1), ("sno", 3497)]);
-    fed(&DAIRY, h, [1, 0, 3496, 1], &[("cn", 1), ("sin", 850)]);
+    let h = asm1(&[("xba", 1), ("sno", 3501)]);
+    fed(&DAIRY, h, [1, 0, 3500, 1], &[("cn", 1), ("sin", 850)]);
     let i = asm1(&[("xs", 100), ("xnd", 4110)]);
     fed(&DAIRY, i, [0; 4], &[("xc", 10), ("xch", 15), ("xli", 75), ("sin", 10)]);
 }
 
-/// A plant with every column. A = 265: oxygen takes 20 and 3000 ticks of nitrate 0.858, so that
+/// A plant with every column. A = 265: oxygen takes 20 and 3000 ticks of nitrate 0.857, so that
 /// 21 are burnt, of ss. 30000 / 1120 = 26 of the 29 left. Of snd 880 ticks are left, and the pool
 /// is 880 + 7000 + 15 × 850 + 60 × 640 = 59030. xi is 7350 × 60 / 10000 = 44.1, the need
 /// 47 × 220 = 10340, and 48690 are left. R = 200 + 10 + 5 + 60 - 44 = 231: xc is 48690 / 410 =
@@ -148,14 +148,14 @@ fn dairy_return_of_every_kind() {
     returned(&DAIRY, d, 17, &[&cod[..], &others].concat());
 }
 
-/// Every column at its ceiling, by the greatest figures. Nitrate burns 2.86 × 10^12: of 4 × 10^12,
-/// 0.14 × 10^12 of xba are left. The pool is 10^16 × (1 + 1 + 2 + 2), the need 10^4 × 3 × 10^12;
-/// all that is not inert becomes xc, and sin is 10^16 + 3 × 10^16 - 10^4 × 0.14 × 10^12.
+/// Every column at its ceiling, by the greatest figures. Nitrate burns 10^16 / 3500, rounded
+/// up: of 4 × 10^12, 142,857,142,857 of xba are left. The pool is 10^16 × (1 + 1 + 2 + 2), the need 10^4 × 3 × 10^12;
+/// all that is not inert becomes xc, and sin is 10^16 + 3 × 10^16 less 10^4 for each of it.
 #[test]
 fn greatest_feed_of_full_columns() {
-    let told = [3_860_000_000_000, COD, TICKS, 0];
+    let told = [3_857_142_857_143, COD, TICKS, 0];
     let inert = [("si", COD), ("xi", 2 * COD), ("sic", COD)];
-    let others = [("xc", 140_000_000_000), ("sin", 38_600_000_000_000_000)];
+    let others = [("xc", 142_857_142_857), ("sin", 38_571_428_571_430_000)];
     fed(&GREATEST, ASM1_CEILINGS, told, &[&inert[..], &others].concat());
 }
 
@@ -194,12 +194,12 @@ fn greatest_shortages() {
 }
 
 /// Full columns by the least figures: no inerts stay, nothing needs nitrogen, each mg of xc takes
-/// one tick. xc is 0.14 × 10^12 + 2 × 10^12, and sin 3 × 10^16 less as much.
+/// one tick. xc is 142,857,142,857 + 2 × 10^12, and sin 3 × 10^16 less as much.
 #[test]
 fn least_feed_of_full_columns() {
-    let told = [3_860_000_000_000, COD, TICKS, 0];
+    let told = [3_857_142_857_143, COD, TICKS, 0];
     let expected =
-        [("si", COD), ("xc", 2_140_000_000_000), ("sin", 29_997_860_000_000_000), ("sic", COD)];
+        [("si", COD), ("xc", 2_142_857_142_857), ("sin", 29_997_857_142_857_143), ("sic", COD)];
     fed(&LEAST_FCH, ASM1_CEILINGS, told, &expected);
     fed(&LEAST_FLI, ASM1_CEILINGS, told, &expected);
 }
@@ -589,8 +589,8 @@ fn feed_by_rules(figures: &Figures, v: &Asm1) -> Option<(Vec<u128>, [u128; 4])> 
     let [si, ss, xi, xs, xbh, xba, xp, so, sno, snh, snd, xnd, salk] = v.map(u128::from);
     let a = ss + xs + xbh + xba;
     let o = so.min(a);
-    let r = sno.min(1_000_000 * (a - o) / 286);
-    let burnt = o + (286 * r).div_ceil(1_000_000);
+    let r = sno.min(3500 * (a - o));
+    let burnt = o + r.div_ceil(3500);
     let (mut owed, mut left) = (burnt, [ss, xs, xbh, xba]);
     for column in &mut left {
         let taken = owed.min(*column);

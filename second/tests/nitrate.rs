@@ -1,5 +1,5 @@
-//! Requests E4 and E8 of document 02: three facts of stage 1, with A the COD that could be burnt
-//! and o the oxygen reduced. No more than A is burnt. Where 286 × sno is at most 10^6 × (A - o),
+//! Requests E4, E8 and E9 of document 02: three facts of stage 1, with A the COD that could be
+//! burnt and o the oxygen reduced. No more than A is burnt. Where sno is at most 3500 × (A - o),
 //! the nitrate is covered: all of it is reduced. Where it is more, the nitrate is short: all of A
 //! is burnt. By worked numbers, on a grid, and on the vectors of the random trials, where equality
 //! has to be met as well.
@@ -30,20 +30,20 @@ fn told_beside(oxygen: u64, cod: u64, sno: u64) -> [u64; 4] {
     told(&vector(&[(SS, rest), (XS, third), (XBH, third), (XBA, oxygen), (SO, oxygen), (SNO, sno)]))
 }
 
-/// Equality, at 143 × j and 500,000 × j: both are used up. A tick more is carried; a tick less and
-/// up to 3,496 of them still take all the COD; with one mg less 3,497 ticks are carried.
+/// Equality: both are used up. A tick more is carried; up to 3,499 ticks less still take all the
+/// COD; with one mg less 3,500 ticks are carried.
 #[test]
 fn at_equality() {
-    for j in [1, 2, 3, 1000, 1_000_003, 19_999_999_999] {
-        for oxygen in [0, 1, 142, 143, COD_CEILING] {
-            let (cod, sno) = (143 * j, 500_000 * j);
+    for cod in [1, 2, 3, 143, 1000, 1_000_003, 2_857_142_857_142] {
+        for oxygen in [0, 1, 3499, 3500, COD_CEILING] {
+            let sno = 3500 * cod;
             let all = oxygen + cod;
             assert_eq!(told_beside(oxygen, cod, sno), [all, oxygen, sno, 0]);
             assert_eq!(told_beside(oxygen, cod, sno + 1), [all, oxygen, sno, 1]);
             assert_eq!(told_beside(oxygen, cod, sno - 1), [all, oxygen, sno - 1, 0]);
-            assert_eq!(told_beside(oxygen, cod, sno - 3496), [all, oxygen, sno - 3496, 0]);
-            assert_eq!(told_beside(oxygen, cod, sno - 3497), [all - 1, oxygen, sno - 3497, 0]);
-            assert_eq!(told_beside(oxygen, cod - 1, sno), [all - 1, oxygen, sno - 3497, 1]);
+            assert_eq!(told_beside(oxygen, cod, sno - 3499), [all, oxygen, sno - 3499, 0]);
+            assert_eq!(told_beside(oxygen, cod, sno - 3500), [all - 1, oxygen, sno - 3500, 0]);
+            assert_eq!(told_beside(oxygen, cod - 1, sno), [all - 1, oxygen, sno - 3500, 1]);
         }
     }
 }
@@ -56,7 +56,7 @@ fn no_cod_left() {
         for column in [SS, XS, XBH, XBA] {
             let mut v = vector(&[(column, cod), (SO, so)]);
             assert_eq!(told(&v), [cod, cod, 0, warn]);
-            for sno in [1, 3496, TICK_CEILING] {
+            for sno in [1, 3500, TICK_CEILING] {
                 v[SNO] = sno;
                 assert_eq!(told(&v), [cod, cod, 0, 1]);
             }
@@ -64,17 +64,17 @@ fn no_cod_left() {
     }
 }
 
-/// The greatest nitrate is just covered by 2.86 × 10^12, and not by one less; all columns at their
-/// ceilings cover it.
+/// The greatest nitrate is just covered by 10^16 / 3500 rounded up, and not by one less, where
+/// 3,000 ticks are carried; all columns at their ceilings cover it.
 #[test]
 fn at_the_ceilings() {
-    let just = 2_860_000_000_000;
+    let just = 2_857_142_857_143;
     for oxygen in [0, 1, COD_CEILING] {
         let (all, sno) = (oxygen + just, TICK_CEILING);
         assert_eq!(told_beside(oxygen, just, sno), [all, oxygen, sno, 0]);
         assert_eq!(told_beside(oxygen, just + 1, sno), [all, oxygen, sno, 0]);
-        assert_eq!(told_beside(oxygen, just - 1, sno), [all - 1, oxygen, sno - 3497, 1]);
-        assert_eq!(told_beside(oxygen, just - 1, sno - 3497), [all - 1, oxygen, sno - 3497, 0]);
+        assert_eq!(told_beside(oxygen, just - 1, sno), [all - 1, oxygen, sno - 3000, 1]);
+        assert_eq!(told_beside(oxygen, just - 1, sno - 3000), [all - 1, oxygen, sno - 3000, 0]);
     }
     let all = COD_CEILING + just;
     assert_eq!(told(&ASM1_CEILINGS), [all, COD_CEILING, TICK_CEILING, 0]);
@@ -98,12 +98,12 @@ impl Met {
     /// whole numbers without a ceiling; counts the vector.
     fn check(&mut self, figures: &Figures, v: &Asm1) {
         let available: u128 = [SS, XS, XBH, XBA].map(|column| u128::from(v[column])).iter().sum();
-        let cod = 1_000_000 * available.saturating_sub(v[SO].into());
-        let nitrate = 286 * u128::from(v[SNO]);
+        let most = 3500 * available.saturating_sub(v[SO].into());
+        let nitrate = u128::from(v[SNO]);
         let burn = convert::burn(v);
         assert!(u128::from(burn.burnt) <= available, "{v:?}");
         let fed = convert::feed(figures, v).ok().map(|(out, _)| out);
-        if nitrate <= cod {
+        if nitrate <= most {
             assert_eq!(burn.nitrate, v[SNO], "{v:?}");
             assert!(fed.is_none_or(|out| out[digester::CN] == 0), "{v:?}");
         } else {
@@ -111,20 +111,20 @@ impl Met {
             let inert = u128::from(v[SI] + v[XI] + v[XP]);
             assert!(fed.is_none_or(|out| cod_digester(&out) == inert), "{v:?}");
         }
-        self.count(cod, nitrate);
+        self.count(most, nitrate);
     }
 
-    /// Counts a vector by its COD for nitrate in millionths, and what its nitrate asks of it.
-    fn count(&mut self, cod: u128, nitrate: u128) {
-        match (cod, nitrate) {
+    /// Counts a vector by the nitrate that its COD can reduce, and the nitrate that it has.
+    fn count(&mut self, most: u128, nitrate: u128) {
+        match (most, nitrate) {
             (0, 0) => self.nothing += 1,
             (0, _) => self.no_cod += 1,
-            _ if nitrate == cod => self.equal += 1,
-            _ if nitrate < cod => self.covered += 1,
+            _ if nitrate == most => self.equal += 1,
+            _ if nitrate < most => self.covered += 1,
             _ => self.short += 1,
         }
-        self.below += u32::from(cod > 0 && nitrate + 286 == cod);
-        self.above += u32::from(cod > 0 && nitrate == cod + 286);
+        self.below += u32::from(most > 0 && nitrate + 1 == most);
+        self.above += u32::from(most > 0 && nitrate == most + 1);
     }
 
     /// Checks that each case was met so many times.
@@ -139,14 +139,14 @@ impl Met {
 /// with nitrate around the edge.
 #[test]
 fn on_a_grid() {
-    let sizes = [0, 1, 2, 142, 143, 144, 286, 1001, 999_999, 143_000_000];
+    let sizes = [0, 1, 2, 3, 7, 143, 3499, 3500, 1_000_001, 143_000_000];
     let sizes = sizes.into_iter().chain([COD_CEILING - 143, COD_CEILING - 1, COD_CEILING]);
     let mut met = Met::default();
     for columns in [&[SS][..], &[XS], &[XBH], &[XBA], &[SS, XS, XBH, XBA]] {
         for (cod, so) in sizes.clone().flat_map(|cod| sizes.clone().map(move |so| (cod, so))) {
             let mut v = vector(&[(SO, so)]);
             columns.iter().for_each(|&column| v[column] = cod);
-            let most = 1_000_000 * (cod * columns.len() as u64).saturating_sub(so) / 286;
+            let most = 3500 * (cod * columns.len() as u64).saturating_sub(so);
             let around = [most.saturating_sub(1), most, most + 1];
             for sno in around.into_iter().chain([0, 1, TICK_CEILING - 1, TICK_CEILING]) {
                 v[SNO] = sno.min(TICK_CEILING);

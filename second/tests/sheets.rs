@@ -422,8 +422,8 @@ fn worked_balances() {
     assert_eq!(balances.received, [9, 880 + 999, 2, 3499]);
     let Ok(Told::Fed(fed)) = plant.call(&Call::Feed(1000)) else { panic!("no feed") };
     balances.count(&Call::Feed(1000), &fed.numbers());
-    assert_eq!(plant, with_digester(&[("saa", 1), ("ssu", 3), ("xc", 1), ("sin", 619)]));
-    assert_eq!(balances.left, [4, 0, 2, 3499]);
+    assert_eq!(plant, with_digester(&[("saa", 1), ("ssu", 4), ("xc", 1), ("sin", 619)]));
+    assert_eq!(balances.left, [3, 0, 2, 3499]);
     assert_eq!(balances.check(plant.held().unwrap().numbers()), Ok(()));
 }
 

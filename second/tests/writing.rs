@@ -189,9 +189,9 @@ fn written_lines_are_answered() {
             with_sludge(&[("ss", 10), ("xi", 1), ("snh", 40)]),
         ),
         (
-            with_sludge(&[("xba", 1), ("sno", 3497)]),
+            with_sludge(&[("xba", 1), ("sno", 3501)]),
             Call::Feed(1000),
-            "(ok feed burnt 1 oxygen 0 nitrate 3496 warn 1)",
+            "(ok feed burnt 1 oxygen 0 nitrate 3500 warn 1)",
             with_digester(&[("sin", 880), ("cn", 1)]),
         ),
         (

@@ -25,9 +25,9 @@ pub record NitrateRule : Type 0 where
   pub cod : ℕ
   pub ticks : ℕ
 
--- 2.86 mg of COD for 1 mg N, which is 10,000 ticks
+-- document 02, E9: 40/14 mg of COD for 1 mg N, which is 10,000 ticks
 abbrev pub nitrate_rule : NitrateRule
-nitrate_rule = record { cod = 286; ticks = 1_000_000 }
+nitrate_rule = record { cod = 1; ticks = 3_500 }
 
 abbrev pub ceil : ℕ → ℕ → ℕ
 ceil m n = (m + (n - 1)) / n

@@ -24,13 +24,13 @@ use Rattle.interface.specs.Return.{return_of}
 abbrev pub BurntLaw : Type 0
 BurntLaw = (v : Asm1) → let s = stage1 nitrate_rule v in s.D ≤ s.A
 
--- 286 × sno ≤ 10⁶ × (A − o): r = sno
+-- sno ≤ 3500 × (A − o): r = sno
 abbrev pub CoveredLaw : Type 0
 CoveredLaw =
     (v : Asm1) → let s = stage1 nitrate_rule v in
     nitrate_rule.cod * v.sno ≤ nitrate_rule.ticks * (s.A - s.o) → s.r ≡ v.sno
 
--- 10⁶ × (A − o) < 286 × sno: D = A
+-- 3500 × (A − o) < sno: D = A
 abbrev pub ShortLaw : Type 0
 ShortLaw =
     (v : Asm1) → let s = stage1 nitrate_rule v in

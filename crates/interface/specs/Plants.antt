@@ -61,10 +61,10 @@ pub data Row : Type 0 where
 abbrev pub plants : List Row
 plants =
     -- a: D, o, r by stage1; ssu by stage2
-    feeding ("ss" is 40000 ∷ "so" is 5000 ∷ "sno" is 100_000_000 ∷ []) (fed 33600 5000 100_000_000 0 ("ssu" is 6400 ∷ []))
+    feeding ("ss" is 40000 ∷ "so" is 5000 ∷ "sno" is 100_000_000 ∷ []) (fed 33572 5000 100_000_000 0 ("ssu" is 6428 ∷ []))
     -- b, the session's feed: D, o, r by stage1; xch, xli by stage5
     ∷ feeding ("ss" is 10000 ∷ "xs" is 30000 ∷ "so" is 5000 ∷ "sno" is 100_000_000 ∷ [])
-    (fed 33600 5000 100_000_000 0 ("xch" is 2844 ∷ "xli" is 3556 ∷ []))
+    (fed 33572 5000 100_000_000 0 ("xch" is 2856 ∷ "xli" is 3572 ∷ []))
     -- c: saa, ssu by stage2; sin, the leftover of snd / naa, by stage3 and stage5
     ∷ feeding ("ss" is 100 ∷ "snd" is 10000 ∷ []) (fed 0 0 0 0 ("saa" is 10 ∷ "ssu" is 90 ∷ "sin" is 200 ∷ []))
     -- d: saa by stage2; sin by stage3 and stage5
@@ -77,7 +77,7 @@ plants =
     -- g: D, o, co, cn and warn by stage1
     ∷ feeding ("xs" is 5 ∷ "so" is 7 ∷ "sno" is 100 ∷ []) (fed 5 5 0 1 ("co" is 2 ∷ "cn" is 100 ∷ []))
     -- h: D, r, cn and warn by stage1; sin, the nitrogen of the burnt biomass, by stage3 and stage5
-    ∷ feeding ("xba" is 1 ∷ "sno" is 3497 ∷ []) (fed 1 0 3496 1 ("cn" is 1 ∷ "sin" is 880 ∷ []))
+    ∷ feeding ("xba" is 1 ∷ "sno" is 3501 ∷ []) (fed 1 0 3500 1 ("cn" is 1 ∷ "sin" is 880 ∷ []))
     -- i: xc, xch, xli, sin by stage5
     ∷ feeding ("xs" is 100 ∷ "xnd" is 2810 ∷ []) (fed 0 0 0 0 ("xc" is 10 ∷ "xch" is 40 ∷ "xli" is 50 ∷ "sin" is 10 ∷ []))
     -- j, return: xi and xs by returned_vector; snh by nitrogen_of and taken

@@ -280,10 +280,10 @@ pub struct Remains {
     pub sin: Ticks,
 }
 
-// The nitrate rule: 286 mg of COD reduce 1,000,000 ticks of nitrate.
+// The nitrate rule: 1 mg of COD reduces 3,500 ticks of nitrate.
 const NITRATE: Rate = Rate {
-    cod: 286,
-    ticks: 1000000,
+    cod: 1,
+    ticks: 3500,
 };
 
 // Whether COD covers nitrate: it can reduce all of it. This and the two below say the nitrate rule in the words of stage 1, and what the

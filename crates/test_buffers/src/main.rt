@@ -123,7 +123,7 @@ fn each_kind_handed_back(buf: &mut [u8]) {
 // What a feed tells: four numbers that differ.
 fn fed() -> Answer {
     Answer::Fed {
-        burnt: Milligrams(33600),
+        burnt: Milligrams(33572),
         oxygen: Milligrams(5000),
         nitrate: Ticks(100000000),
         warn: 1,

@@ -5,8 +5,8 @@
 //!
 //!     floating [--seed N] [--runs N] [--calls N] [--recycles N]
 //!
-//! The double-precision link takes document 01's stages and house figures, with
-//! 004's real divisions where document 01 has floors, and real units: COD and
+//! The double-precision link takes document 01's stages (as document 02 amends them) and
+//! house figures, with 004's real divisions where document 01 has floors, and real units: COD and
 //! oxygen in g (a count is 0.001 g), nitrogen and nitrate in g N (a tick is 10^-7 g).
 //! It has no ceilings, so a call that the proved link refuses by 10 goes through.
 //!
@@ -33,6 +33,9 @@ const N_XC: f64 = 0.028;
 const N_I: f64 = 0.028;
 const N_AA: f64 = 0.098;
 const N_BAC: f64 = 0.0875;
+
+/// The COD that nitrate burns, in g COD per g N.
+const COD_NITRATE: f64 = 40.0 / 14.0;
 
 /// Parts of one.
 const F_XI: f64 = 0.8;
@@ -91,9 +94,9 @@ fn burn(v: &RealAsm1) -> ([f64; 4], Gone) {
     let available = v[SS] + v[XS] + v[XBH] + v[XBA];
     // "The reduction of oxygen is first carried out and then as much nitrate as possible".
     let oxygen = v[SO].min(available);
-    let nitrate = v[SNO].min((available - oxygen) / 2.86);
-    // COD_demand = S_o + 2.86 S_no.
-    let demand = oxygen + 2.86 * nitrate;
+    let nitrate = v[SNO].min((available - oxygen) / COD_NITRATE);
+    // COD_demand = S_o + 2.86 S_no, with 40/14 for 2.86 (request E9 of document 02).
+    let demand = oxygen + COD_NITRATE * nitrate;
     let mut owed = demand;
     let left = [SS, XS, XBH, XBA].map(|column| {
         let taken = v[column].min(owed);

@@ -39,7 +39,7 @@ fn one_edge(random: &mut Random, figures: &Figures, v: &mut Asm1, sum: &Asm1) {
     let inerts = convert::inerts(figures, sum, saa);
     let (column, target) = match random.below(7) {
         0 => (asm1::SO, nudged(random, burn.available)),
-        1 => nitrate_edge(random, v, burn.available - burn.oxygen),
+        1 => nitrate_edge(random, burn.available - burn.oxygen),
         2 => (asm1::SS, nudged(random, burn.burnt)),
         3 => (asm1::SND, nudged(random, figures.naa * left[0])),
         4 => inert_edge(random, figures.ni, v, sum, &inerts),
@@ -52,12 +52,9 @@ fn one_edge(random: &mut Random, figures: &Figures, v: &mut Asm1, sum: &Asm1) {
     bring(v, sum, column, target);
 }
 
-/// Nitrate that the COD left by oxygen just reduces. Half the time ss first brings that COD to a
-/// multiple of 143, so that a whole number of ticks uses all of it up.
-fn nitrate_edge(random: &mut Random, v: &mut Asm1, cod: u64) -> (usize, u64) {
-    let more = if random.percent(50) { cod.next_multiple_of(143) - cod } else { 0 };
-    v[asm1::SS] += more;
-    (asm1::SNO, nudged(random, 1_000_000 * (cod + more) / 286))
+/// Nitrate that the COD left by oxygen just reduces.
+fn nitrate_edge(random: &mut Random, cod: u64) -> (usize, u64) {
+    (asm1::SNO, nudged(random, 3500 * cod))
 }
 
 /// Ammonia that just covers the inerts' need, or particulate nitrogen that just covers it alone.

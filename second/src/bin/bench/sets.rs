@@ -35,15 +35,15 @@ pub fn any() -> Set {
     set
 }
 
-/// The COD that oxygen leaves for nitrate, in millionths.
-fn cod_for_nitrate(v: &Asm1) -> u64 {
+/// The nitrate that the COD left by oxygen can reduce.
+fn reducible(v: &Asm1) -> u64 {
     let burn = convert::burn(v);
-    1_000_000 * (burn.available - burn.oxygen)
+    3500 * (burn.available - burn.oxygen)
 }
 
 /// Whether a vector's COD can reduce all its nitrate.
 pub fn is_covered(v: &Asm1) -> bool {
-    286 * v[asm1::SNO] <= cod_for_nitrate(v)
+    v[asm1::SNO] <= reducible(v)
 }
 
 /// Records, all of whose sludge is drawn, with COD for nitrate in each; its nitrate is given by
@@ -53,7 +53,7 @@ fn with_nitrate(name: &'static str, nitrate: impl Fn(u64, u64) -> u64) -> Set {
     let mut set = Set { name, plants: Vec::new(), thousandths: vec![1000; RECORDS] };
     while set.plants.len() < RECORDS {
         let mut plant = plant(&mut random);
-        let most = cod_for_nitrate(&plant.sludge) / 286;
+        let most = reducible(&plant.sludge);
         if most > 0 {
             plant.sludge[asm1::SNO] = nitrate(most, random.sized(most - 1));
             set.plants.push(plant);
