@@ -1,4 +1,4 @@
--- Feed, stage by stage: document 01, "Feed, stage by stage"; source document 004, "ASM1 → ADM1".
+-- Feed, stage by stage: document 01, "Feed, stage by stage", and document 02, E9; source document 004, "ASM1 → ADM1".
 --
 --   NitrateRule, nitrate_rule   how much COD nitrate burns
 --   ceil                        a quotient rounded up
@@ -8,6 +8,7 @@
 --
 -- Where document 01 parts from 004:
 --   counts are whole, and each definition says where a leftover goes;
+--   nitrate burns 40/14 mg of COD for 1 mg N, by stoichiometry (E9), where 004 has 2.86;
 --   nitrate that no COD is left to reduce is carried through in cn (004 allows that or adding it to the inorganic nitrogen);
 --   a shortage of nitrogen for the inerts refuses the feed, where 004 maps less inert COD, and ammonia counts as cover after the pool.
 use Rattle.std.specs.Prelude.{Bool, cond, ◌&&◌, Result, Ok, Err, List, ℕ, ◌+◌, ◌-◌, ◌*◌, ◌/◌, min, ltb, eqb}

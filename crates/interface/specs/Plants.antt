@@ -1,4 +1,5 @@
--- The hand-worked plants a to k: document 01, "Hand-worked plants" (k = 1000, unnamed columns zero).
+-- The hand-worked plants a to k: document 01, "Hand-worked plants" (k = 1000, unnamed columns zero), with a, b and h as document 02,
+-- E9, amends them.
 --
 --   ◌is◌                         a column by its name and its value
 --   asm1_named, digester_named   the columns that have these values, all others zero

@@ -62,8 +62,8 @@ receive p v =
           };
     }
 
--- Feed k draws from sludge, converts, and adds to the digester: what is tested of what the conversion gives, its own 4 or 6 first; what
--- becomes of it, where r stays; and what it tells.
+-- Feed k draws from sludge, converts, and adds to the digester: what is tested of what the conversion gives, its own 4 first; what becomes
+-- of it, where r stays; and what it tells.
 abbrev pub fed_tests : Plant → Result Fed Refusal → List (Option Refusal)
 fed_tests p (Ok o) = unless (within digester_ceilings (added p.digester o.vector)) TankAbove ∷ []
 fed_tests p (Err e) = Some e ∷ []

@@ -8,7 +8,7 @@ use crate::answer::{Answer, Outcome, outcome_of};
 use crate::record::{Plant, is_thousandths, usable};
 use refusals::{Refusal, unless};
 
-// Refusals 15, 1, 2, 4, 6 and 10.
+// Refusals 15, 1, 2, 4 and 10.
 pub fn feed(plant: Plant, k: u64) -> Outcome
     ensures outcome { result ≡ step plant (feeding k) }
     ensures tells { told result.answer ≡ told_for plant (feeding k) }
