@@ -149,8 +149,9 @@ fn dairy_return_of_every_kind() {
 }
 
 /// Every column at its ceiling, by the greatest figures. Nitrate burns 10^16 / 3500, rounded
-/// up: of 4 × 10^12, 142,857,142,857 of xba are left. The pool is 10^16 × (1 + 1 + 2 + 2), the need 10^4 × 3 × 10^12;
-/// all that is not inert becomes xc, and sin is 10^16 + 3 × 10^16 less 10^4 for each of it.
+/// up: of 4 × 10^12, 142,857,142,857 of xba are left. The pool is 10^16 × (1 + 1 + 2 + 2), the
+/// need 10^4 × 3 × 10^12; all that is not inert becomes xc, and sin is 10^16 + 3 × 10^16 less
+/// 10^4 for each of it.
 #[test]
 fn greatest_feed_of_full_columns() {
     let told = [3_857_142_857_143, COD, TICKS, 0];

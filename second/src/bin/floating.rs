@@ -6,8 +6,8 @@
 //!     floating [--seed N] [--runs N] [--calls N] [--recycles N]
 //!
 //! The double-precision link takes document 01's stages (as document 02 amends them) and
-//! house figures, with 004's real divisions where document 01 has floors, and real units: COD and
-//! oxygen in g (a count is 0.001 g), nitrogen and nitrate in g N (a tick is 10^-7 g).
+//! house figures, with 004's real divisions where document 01 has floors, and real units: COD
+//! and oxygen in g (a count is 0.001 g), nitrogen and nitrate in g N (a tick is 10^-7 g).
 //! It has no ceilings, so a call that the proved link refuses by 10 goes through.
 //!
 //! Here: 004's formulas, the plant in double precision, the plant of the C library, a
