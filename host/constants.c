@@ -1,9 +1,9 @@
 /* The header's constants held against the library: the places of the columns by the
  * names that a line gives them, the refusals by calls that get them, the lengths of the
- * buffers, the kinds of a sheet and the version. host/run compiles it as C and as C++,
- * so that a host in C++ is linked too. It prints what the library does not bear out.
- * The places of tanks and figures, and the house set, are held by the examples.
- * JILGHVANI_LINE is not held: no line near it is a form. */
+ * buffers, the most loads of a blend, the kinds of a sheet and the version. host/run
+ * compiles it as C and as C++, so that a host in C++ is linked too. It prints what the
+ * library does not bear out. The places of tanks and figures, and the house set, are held
+ * by the examples. JILGHVANI_LINE is not held: no line near it is a form. */
 #include "jilghvani.h"
 
 #include <stdio.h>
@@ -103,6 +103,16 @@ static uint64_t sheet(int kind, float value, uint64_t told[4])
     return jilghvani_sheet(record, kinds, values, told);
 }
 
+/* The refusal of a blend of so many empty loads, at most nine, into a fresh record. */
+static uint64_t blended(int number)
+{
+    uint64_t record[JILGHVANI_RECORD], loads[9 * JILGHVANI_ASM1] = {0};
+    const uint64_t ks[9] = {1, 1, 1, 1, 1, 1, 1, 1, 1};
+
+    jilghvani_fresh(record);
+    return jilghvani_blend(record, loads, (size_t)number * JILGHVANI_ASM1, ks, (size_t)number);
+}
+
 /* The refusals, each by a call that gets it. 6 has none, and 12 is told by a count. */
 static void refusals(void)
 {
@@ -132,11 +142,15 @@ static void refusals(void)
     ask(sheet(3, 1.0f, told) == JILGHVANI_VALUE_NO_AMOUNT, "VALUE_NO_AMOUNT");
     ask(sheet(JILGHVANI_MEASURED, 1e30f, told) == JILGHVANI_VALUE_ABOVE_CEILING, "VALUE_ABOVE_CEILING");
     ask(jilghvani_make(record, none) == JILGHVANI_FIGURES_NOT_PERMITTED, "FIGURES_NOT_PERMITTED");
+    ask(jilghvani_blend(record, NULL, 0, NULL, 0) == JILGHVANI_NO_BLEND
+            && jilghvani_blend(record, v, JILGHVANI_ASM1, NULL, 0) == JILGHVANI_NO_BLEND
+            && jilghvani_blend(record, NULL, 0, none, 1) == JILGHVANI_NO_BLEND, "NO_BLEND");
     ask(strcmp(jilghvani_refusal_text(6), jilghvani_refusal_text(99)) == 0, "6, which is not used again");
     ask(strstr(jilghvani_refusal_text(12), "512") != NULL, "BUFFER_SHORT");
 }
 
-/* The shortest buffers, the kinds of a sheet's entries, and the version. */
+/* The shortest buffers, the most loads of a blend, the kinds of a sheet's entries, and the
+ * version. */
 static void others(void)
 {
     uint64_t record[JILGHVANI_RECORD], told[4];
@@ -148,6 +162,8 @@ static void others(void)
             && jilghvani_held(record, buf, JILGHVANI_BUFFER - 1) == 0, "BUFFER");
     ask(jilghvani_write_feed(1, 0, buf, JILGHVANI_LINE_BUFFER) > 0
             && jilghvani_write_feed(1, 0, buf, JILGHVANI_LINE_BUFFER - 1) == 0, "LINE_BUFFER");
+    ask(blended(JILGHVANI_MOST_LOADS) == JILGHVANI_ACCEPTED
+            && blended(JILGHVANI_MOST_LOADS + 1) == JILGHVANI_NO_BLEND, "MOST_LOADS");
     ask(sheet(JILGHVANI_MEASURED, 1.0f, told) == 0 && told[0] == 0 && told[3] == 0, "MEASURED");
     ask(sheet(JILGHVANI_BELOW_LIMIT, 1.0f, told) == 0 && told[0] == 8000 && told[3] == 0, "BELOW_LIMIT");
     ask(sheet(JILGHVANI_NOT_SAMPLED, 1.0f, told) == 0 && told[0] == 0 && told[3] == 13, "NOT_SAMPLED");

@@ -7,14 +7,16 @@
  *   - the house set of figures,
  *   - the refusals and their texts,
  *   - the functions: the two on text, the six that write a call as a line, the
- *     calls by numbers, the one for a laboratory sheet, the two conversions by
- *     themselves, and the two for a solver's proposal. Above each stands who owns
- *     what, what is read and written, and what a refusal leaves.
+ *     calls by numbers, the one for a laboratory sheet, the one for hauled loads,
+ *     the two conversions by themselves, and the two for a solver's proposal.
+ *     Above each stands who owns what, what is read and written, and what a
+ *     refusal leaves.
  *
  * Memory. A record is an array of 61 uint64_t that the caller owns, and so are
- * vectors, figures, told numbers, lines and buffers. There is no other state: the
- * library keeps nothing between calls, allocates nothing and holds no pointer after
- * it returns. Of an array it touches as many numbers as its declaration names.
+ * vectors, figures, told numbers, loads and their ks, lines and buffers. There is no
+ * other state: the library keeps nothing between calls, allocates nothing and holds
+ * no pointer after it returns. Of an array it touches as many numbers as its
+ * declaration names, or, where a length is handed over beside it, no more than that.
  *
  * Threads. Calls may run at the same time in any threads, as long as none of
  * them is lent for writing what another is lent. So calls that change one record
@@ -26,9 +28,9 @@
  * takes the figures of a record where they stand, and jilghvani_make does not take
  * those of the record that it makes.
  *
- * Pointers. Records, vectors, figures and told numbers are aligned as uint64_t is,
- * the values of a sheet as float is; its kinds, lines and buffers stand anywhere.
- * No pointer may be null, except that of a line or a buffer whose length is 0.
+ * Pointers. Records, vectors, figures, told numbers, loads and their ks are aligned
+ * as uint64_t is, the values of a sheet as float is; its kinds, lines and buffers
+ * stand anywhere. No pointer may be null, except one whose length is 0.
  *
  * Refusals. A function by numbers gives the refusal's number, or 0 where it is
  * accepted. Its tests run in the order that is given above it, and the first
@@ -99,7 +101,7 @@
  * made by jilghvani_fresh or jilghvani_make. JILGHVANI_COLUMNS, which was a
  * record's length, is gone, so that none is 52 long by it. While the version's first
  * number is 0, the shared library's soname has the second one too, as
- * libjilghvani.so.0.14, so that the loader does not start a host with a library that
+ * libjilghvani.so.0.15, so that the loader does not start a host with a library that
  * it was not linked for. The archive has no such guard.
  */
 #ifndef JILGHVANI_H
@@ -113,9 +115,9 @@ extern "C" {
 #endif
 
 /* The version of this header, and its three numbers. */
-#define JILGHVANI_VERSION "0.14.0"
+#define JILGHVANI_VERSION "0.15.0"
 #define JILGHVANI_VERSION_MAJOR 0
-#define JILGHVANI_VERSION_MINOR 14
+#define JILGHVANI_VERSION_MINOR 15
 #define JILGHVANI_VERSION_PATCH 0
 
 /* Sizes, and the places of columns and figures: record[JILGHVANI_DIGESTER_AT +
@@ -136,6 +138,7 @@ enum {
     JILGHVANI_LINE = 1024,    /* the longest line that is read; no form is longer
                                * than 739 bytes, so that a longer line gets refusal
                                * 11, or 12 before it where the buffer is short */
+    JILGHVANI_MOST_LOADS = 8, /* the most hauled loads that one blend takes */
 
     /* the kinds of a sheet's entries */
     JILGHVANI_MEASURED = 0,    /* a measured value */
@@ -220,7 +223,8 @@ enum jilghvani_refusal {
     JILGHVANI_BUFFER_SHORT = 12,
     JILGHVANI_VALUE_NO_AMOUNT = 13,
     JILGHVANI_VALUE_ABOVE_CEILING = 14,
-    JILGHVANI_FIGURES_NOT_PERMITTED = 15
+    JILGHVANI_FIGURES_NOT_PERMITTED = 15,
+    JILGHVANI_NO_BLEND = 16
 };
 
 /* The text of a refusal's number: a constant string, for any number, that nobody
@@ -258,6 +262,8 @@ static inline const char *jilghvani_refusal_text(uint64_t refusal)
         return "a value's or limit's count is above its column's ceiling";
     case JILGHVANI_FIGURES_NOT_PERMITTED:
         return "a figure is above 10000, or nxc, naa or fch + fli is 0";
+    case JILGHVANI_NO_BLEND:
+        return "there are no loads, more than eight, or not thirteen columns for each k";
     default:
         return "no refusal has this number";
     }
@@ -475,6 +481,35 @@ uint64_t jilghvani_totals(const uint64_t record[JILGHVANI_RECORD],
 uint64_t jilghvani_sheet(uint64_t record[JILGHVANI_RECORD],
                          const uint8_t kinds[JILGHVANI_ASM1],
                          const float values[JILGHVANI_ASM1], uint64_t told[4]);
+
+/* ---- Hauled loads ---- */
+
+/* Blend: draws of each of one to eight hauled loads the thousandths that stand for
+ * it, adds all draws to the sludge tank, column by column, and leaves the rest of
+ * each load in its place. Of a column the floor of column * k / 1000 is drawn, so
+ * that each load's column before is its draw and its rest after, to the last count.
+ * The same loads in another order, each with its k, give the same sludge tank. In
+ * the balances of a list of calls the draws count as received.
+ *
+ * record    the caller's 61 numbers, read and written; the sludge tank is changed
+ *           where the call is accepted. A refused one leaves every number as it
+ *           was.
+ * loads     loads_len numbers that the caller owns, read and written: the loads one
+ *           behind another, 13 columns each in the order of the ASM1 columns. Where
+ *           the call is accepted they are what is left of each load; a refused one
+ *           leaves every number as it was.
+ * ks        ks_len numbers that the caller owns, read and never written: for each
+ *           load, in the order of the loads, the thousandths to draw, 1 to 1000.
+ *
+ * The lengths are counted in numbers, not in bytes: ks_len is 1 to 8
+ * (JILGHVANI_MOST_LOADS), and loads_len 13 * ks_len. Any other lengths get 16.
+ * Where a length is 0 its pointer may be null.
+ *
+ * Record, loads and ks must not overlap. Gives 0 or the refusal: 15; 1; 16; 2 where
+ * any k is not 1 to 1000; 3 where any column of any load is above its ceiling; 10. */
+uint64_t jilghvani_blend(uint64_t record[JILGHVANI_RECORD],
+                         uint64_t *loads, size_t loads_len,
+                         const uint64_t *ks, size_t ks_len);
 
 /* ---- The conversions by themselves ---- */
 

@@ -4,9 +4,10 @@
 //!
 //! What the list received is in the tanks after it, or it has left them: released, burnt
 //! or reduced by feeds, stripped by returns, or gas of settles. A recycle moves water
-//! between two tanks and adds to neither side; a refused call and a preview count for
-//! nothing.
+//! between two tanks and adds to neither side; a blend's draws are received; a refused call
+//! and a preview count for nothing.
 
+use crate::blends;
 use crate::figures::Figures;
 use crate::lines::{self, Asked};
 use crate::plant::{Call, Plant};
@@ -66,6 +67,13 @@ impl Balances {
             }
             (Call::Recycle(_), []) => {}
             _ => panic!("{call:?} does not tell {told:?}"),
+        }
+    }
+
+    /// Counts an accepted blend by its loads as they were before it: the draws are received.
+    pub fn count_blend(&mut self, loads: &[u64], ks: &[u64]) {
+        for drawn in blends::draws(loads, ks) {
+            add(&mut self.received, measures(&self.figures, &drawn));
         }
     }
 

@@ -3,8 +3,8 @@
 //! Each function is declared once. What it is lent is a reference to an array of the
 //! length that the library takes: never null, aligned, and not overlapping with what it
 //! may write, which is all that it asks for; so safe code may call it. The functions that
-//! take bytes take a pointer and a length; each has a function here that keeps the two
-//! together.
+//! take bytes, or any number of loads, take a pointer and a length; each has a function here
+//! that keeps the two together.
 
 use crate::plant::Record;
 use crate::tables::{Asm1, Digester};
@@ -38,6 +38,14 @@ unsafe extern "C" {
     fn jilghvani_write_release(k: u64, preview: u64, buf: *mut u8, buf_len: usize) -> usize;
     /// Writes the line of a recycle; `write_recycle` below calls it.
     fn jilghvani_write_recycle(k: u64, preview: u64, buf: *mut u8, buf_len: usize) -> usize;
+    /// Blends hauled loads; `blend` below calls it.
+    fn jilghvani_blend(
+        record: &mut Record,
+        loads: *mut u64,
+        loads_len: usize,
+        ks: *const u64,
+        ks_len: usize,
+    ) -> u64;
     /// The same as `numbers::make`.
     pub safe fn jilghvani_make(record: &mut Record, figures: &[u64; 9]) -> u64;
     /// The same as `numbers::fresh`.
@@ -130,4 +138,10 @@ pub fn write_release(k: u64, preview: u64, buffer: &mut [u8]) -> usize {
 pub fn write_recycle(k: u64, preview: u64, buffer: &mut [u8]) -> usize {
     // The pointer goes with its own length.
     unsafe { jilghvani_write_recycle(k, preview, buffer.as_mut_ptr(), buffer.len()) }
+}
+
+/// The same as `numbers::blend`.
+pub fn blend(record: &mut Record, loads: &mut [u64], ks: &[u64]) -> u64 {
+    // Each pointer goes with its own length.
+    unsafe { jilghvani_blend(record, loads.as_mut_ptr(), loads.len(), ks.as_ptr(), ks.len()) }
 }

@@ -1,10 +1,10 @@
 //! A second implementation of the ASM1 and ADM1 link, written from document 01, from
 //! requests E1 (recycle), E2 (fields in column order), E3 (previews), E5 (a writer for call
-//! lines), E6 (laboratory sheets) and E7 (nine figures of one's own) of document 02 and, for
-//! what they have no line for (conversions by themselves and the figures that they take,
-//! `close`, `gap`, the number that asks for a preview to be written, the kinds of a sheet's
-//! entries, the program's `--figures`), from a description in words; never from the code of
-//! the verified link.
+//! lines), E6 (laboratory sheets), E7 (nine figures of one's own), E9 (nitrate by
+//! stoichiometry) and E10 (hauled loads) of document 02 and, for what they have no line for
+//! (conversions by themselves and the figures that they take, `close`, `gap`, the number that
+//! asks for a preview to be written, the kinds of a sheet's entries, the program's
+//! `--figures`), from a description in words; never from the code of the verified link.
 //!
 //! The link:
 //! - `tables`: column names, ceilings, COD of a vector;
@@ -14,6 +14,7 @@
 //!   their previews, held;
 //! - `closing`: what closes in the place of a solver's proposal, and how far off one is;
 //! - `sheets`: a laboratory's single-precision grams, counted and received;
+//! - `blends`: several hauled loads, each drawn by its own k, added to the sludge tank;
 //! - `numbers`: every call by numbers, as a host in C makes it;
 //! - `lines`: a line read as a call or its preview, an answer written into a lent buffer;
 //! - `writing`: a call or its preview written as its line into a lent buffer;
@@ -24,11 +25,12 @@
 //! - `random`: the generator of their numbers;
 //! - `balances`: the four balances over a list, from its calls and answers;
 //! - `trials`: figures, records, calls, lines, vectors and proposals to try, fair, damaged and
-//!   out of order, previews, calls to be written, and sheets;
+//!   out of order, previews, calls to be written, sheets, and blends;
 //! - `outside`: trials of the program's input, output and arguments;
 //! - `host`: the functions of the C library, with the feature `library` alone.
 
 pub mod balances;
+pub mod blends;
 pub mod closing;
 pub mod convert;
 pub mod figures;

@@ -2,8 +2,8 @@
 //! written to, and the refusal's number comes back, 0 where the call is accepted.
 //!
 //! Where a call is refused the record is as it was, and everything that is told or
-//! handed out is zeros; the proposal of a refused `close` stays as it was, and a making that
-//! is refused hands out a fresh record of the house set.
+//! handed out is zeros; the proposal of a refused `close` and the loads of a refused `blend`
+//! stay as they were, and a making that is refused hands out a fresh record of the house set.
 
 use crate::convert;
 use crate::figures::Figures;
@@ -57,6 +57,11 @@ pub fn sheet(
 ) -> u64 {
     let sheet = Sheet { kinds: *kinds, values: *values };
     on_record(record, told, |plant| plant.sheet(&sheet).map(|unseen| unseen.numbers()))
+}
+
+/// Blends hauled loads, each drawn by its own k; what is left of them stands in their place.
+pub fn blend(record: &mut Record, loads: &mut [u64], ks: &[u64]) -> u64 {
+    on_record(record, &mut [], |plant| plant.blend(loads, ks).map(|()| []))
 }
 
 /// Feeds k thousandths; tells burnt, oxygen, nitrate and warn.

@@ -8,7 +8,7 @@ use crate::convert::{self, FeedTold};
 use crate::figures::{Figures, HOUSE};
 use crate::tables::*;
 
-/// Why a call is sent away; the value is its number in document 01, or in E6 and E7 of
+/// Why a call is sent away; the value is its number in document 01, or in E6, E7 and E10 of
 /// document 02.
 #[derive(Clone, Copy, Debug, PartialEq, Eq)]
 #[repr(u8)]
@@ -28,6 +28,7 @@ pub enum Refusal {
     NoAmount = 13,
     CountAboveCeiling = 14,
     FiguresOutOfBounds = 15,
+    NoBlend = 16,
 }
 
 /// One of the six calls, with the numbers and the vector it is handed.
@@ -91,12 +92,12 @@ pub fn draw<const W: usize>(v: &[u64; W], k: u64) -> [u64; W] {
 }
 
 /// What remains of a vector when the drawn one is taken.
-fn rest<const W: usize>(v: &[u64; W], drawn: &[u64; W]) -> [u64; W] {
+pub fn rest<const W: usize>(v: &[u64; W], drawn: &[u64; W]) -> [u64; W] {
     std::array::from_fn(|column| v[column] - drawn[column])
 }
 
 /// Both vectors added, or refusal 10 where a column would pass its ceiling.
-fn add<const W: usize>(
+pub fn add<const W: usize>(
     tank: &[u64; W],
     v: &[u64; W],
     ceilings: &[u64; W],
@@ -117,7 +118,7 @@ pub fn test_columns<const W: usize>(v: &[u64; W], ceilings: &[u64; W]) -> Result
 }
 
 /// Refusal 2 where k is not 1 to 1000.
-fn test_thousandths(k: u64) -> Result<(), Refusal> {
+pub fn test_thousandths(k: u64) -> Result<(), Refusal> {
     match (1..=1000).contains(&k) {
         true => Ok(()),
         false => Err(Refusal::ThousandthsOutOfRange),

@@ -1,3 +1,3 @@
--- Laws of a list of calls, previews and sheets: the balances, and that the record stays within its ceilings (Within).
+-- Laws of a list of calls, previews, sheets and blends: the balances, and that the record stays within its ceilings (Within).
 pub mod Balance
 pub mod Within

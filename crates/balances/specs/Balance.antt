@@ -1,34 +1,37 @@
 -- The balances over a list of calls: demand 3 of document 01, "The plant record and its five calls", and document 02, E1 (a recycle is
--- neither received nor released), E3 (a preview counts for nothing), E6 (a sheet counts by its counts) and E7 (the figures are the
--- record's own).
+-- neither received nor released), E3 (a preview counts for nothing), E6 (a sheet counts by its counts), E7 (the figures are the
+-- record's own) and E10 (a blend counts by its draws).
 --
---   Entry                                    what stands in a list: a call, a preview of one, or a laboratory sheet
+--   Entry                                    what stands in a list: a call, a preview of one, a laboratory sheet, or a blend
 --   entry                                    an entry by whether it is a preview
 --   after                                    the record after a list, each entry on the record that the one before returned
 --   sum_over                                 a number that each call and its outcome give, added up over the list; previews are skipped
---   sheet_adds                               what a sheet adds to it: a sheet is a receive of its counts, one with a bad column nothing
+--   sheet_adds, blend_adds                   what a sheet and a blend add to it: a sheet is a receive of its counts, a blend one of all its
+--                                            draws; a sheet with a bad column, and a blend that is refused, are nothing
 --   accepted                                 an answer that is no refusal
 --   counts                                   what a call counts for: a receive takes its vector in, a release hands one out, a settle lets
 --                                            gas go; of the others, recycles among them, only what they tell is counted
---   received, released                       a total of the vectors handed to accepted receives and of the counts of accepted sheets, and
---                                            of the vectors handed out by accepted releases
+--   received, released                       a total of the vectors handed to accepted receives, of the counts of accepted sheets and of
+--                                            the draws of accepted blends, and of the vectors handed out by accepted releases
 --   burnt, oxygen_reduced, nitrate_reduced   what accepted feeds tell
 --   gas                                      the gas COD handed to accepted settles
 --   stripped                                 what accepted returns tell
 --   without_previews, SkipLaw                a list without its previews: the same record is after it, and every sum is the same.
 --                                            proofs/Laws/Balance.antt proves it: previews-skipped
 --   sheets_as_calls, SheetLaw                a list with its sheets as receives of their counts, likewise: sheets-as-calls
+--   blends_as_calls, BlendLaw                a list with its accepted blends as receives of all their draws, likewise: blends-as-calls
 --   StayLaw                                  after a list the record has the figures that it was made with: figures-stay
 --   RecycleLaw                               a recycle, refused or not, leaves what is in the three tanks together as it was: recycle-holds
 --   Moved, MovesLaw                          and so each column of sludge and reject together, and the digester; to every sum it adds
 --                                            nothing: recycle-moves
---   Balanced, BalanceLaw                     the four balances, for every list of calls, previews and sheets on a fresh record of any
---                                            permitted set of figures; of a set that is not permitted too, where each call is refused and
---                                            each sum is zero: balance
+--   Balanced, BalanceLaw                     the four balances, for every list of calls, previews, sheets and blends on a fresh record of
+--                                            any permitted set of figures; of a set that is not permitted too, where each call is refused
+--                                            and each sum is zero: balance
 --
--- A list holds everything that is handed to its calls, previews and sheets: any k, any gas, any vector and any entries of any length,
--- honest or not. Its sums are whole numbers without a ceiling.
+-- A list holds everything that is handed to its calls, previews, sheets and blends: any k, any gas, any vector, any entries and any two
+-- slices of any length, honest or not. Its sums are whole numbers without a ceiling.
 use Rattle.std.specs.Prelude.{Bool, true, false, cond, List, [], ◌∷◌, ◌≡◌, ℕ, ◌+◌, Float, is_none, get_or}
+use Rattle.refusals.specs.Tests.{first}
 use Rattle.vectors.specs.declared.figures.Figures.{Figures}
 use Rattle.vectors.specs.Totals.{asm1_cod, asm1_tkn, asm1_oxygen, asm1_nitrate}
 use Rattle.plant.specs.declared.record.Plant.{Plant}
@@ -43,13 +46,15 @@ use Rattle.plant.specs.Calls.{step, preview_of, receiving, recycling}
 use Rattle.plant.specs.Tanks.{cod_in, tkn_in, oxygen_in, nitrate_in}
 use Rattle.sheets.specs.declared.finding.Finding.{Finding}
 use Rattle.sheets.specs.Sheet.{refusal_in, counts_of, sheet_step}
+use Rattle.blends.specs.Blend.{loads_of, draws, blend_tests, blend_step}
 
--- ---- a list of calls, previews and sheets
+-- ---- a list of calls, previews, sheets and blends
 
 pub data Entry : Type 0 where
   calls : Request → Entry
   previews : Request → Entry
   sheets : List (Finding Float) → Entry
+  blends : List ℕ → List ℕ → Entry  -- the slice of the loads, and that of their k
 
 -- a call or a preview, by whether it is a preview
 abbrev pub entry : Bool → Request → Entry
@@ -60,16 +65,26 @@ after p [] = p
 after p (calls r ∷ es) = after (step p r).plant es
 after p (previews r ∷ es) = after (preview_of p r).plant es
 after p (sheets s ∷ es) = after (sheet_step p s).plant es
+after p (blends c ks ∷ es) = after (blend_step p c ks) es
+
+-- what the receive of a vector v adds, where b holds
+abbrev pub receive_adds : (Request → Outcome → ℕ) → Plant → Bool → List ℕ → ℕ
+receive_adds of p b v = let r = receiving v in cond b (of r (step p r)) 0
 
 -- a sheet of which no column is bad adds what the receive of its counts adds
 abbrev pub sheet_adds : (Request → Outcome → ℕ) → Plant → List (Finding Float) → ℕ
-sheet_adds of p s = let r = receiving (counts_of s) in cond (is_none (refusal_in s)) (of r (step p r)) 0
+sheet_adds of p s = receive_adds of p (is_none (refusal_in s)) (counts_of s)
+
+-- a blend to which no refusal applies adds what the receive of all its draws adds
+abbrev pub blend_adds : (Request → Outcome → ℕ) → Plant → List ℕ → List ℕ → ℕ
+blend_adds of p c ks = receive_adds of p (is_none (first (blend_tests p c ks))) (draws (loads_of c ks))
 
 abbrev pub sum_over : (Request → Outcome → ℕ) → Plant → List Entry → ℕ
 sum_over of p [] = 0
 sum_over of p (calls r ∷ es) = of r (step p r) + sum_over of (step p r).plant es
 sum_over of p (previews r ∷ es) = sum_over of (preview_of p r).plant es
 sum_over of p (sheets s ∷ es) = sheet_adds of p s + sum_over of (sheet_step p s).plant es
+sum_over of p (blends c ks ∷ es) = blend_adds of p c ks + sum_over of (blend_step p c ks) es
 
 -- ---- what one call adds to the sums, by the call and its answer alone
 
@@ -143,7 +158,7 @@ pub record Balanced (f : Figures) (es : List Entry) : Type 0 where
 abbrev pub BalanceLaw : Type 0
 BalanceLaw = (f : Figures) (es : List Entry) → Balanced f es
 
--- document 02, E7: no call, preview or sheet changes the figures
+-- document 02, E7: no call, preview, sheet or blend changes the figures
 abbrev pub StayLaw : Type 0
 StayLaw = (p : Plant) (es : List Entry) → (after p es).figures ≡ p.figures
 
@@ -175,6 +190,7 @@ without_previews [] = []
 without_previews (calls r ∷ es) = calls r ∷ without_previews es
 without_previews (previews r ∷ es) = without_previews es
 without_previews (sheets s ∷ es) = sheets s ∷ without_previews es
+without_previews (blends c ks ∷ es) = blends c ks ∷ without_previews es
 
 pub record SameList (p : Plant) (ds es : List Entry) : Type 0 where
   pub plant : after p ds ≡ after p es
@@ -183,12 +199,29 @@ pub record SameList (p : Plant) (ds es : List Entry) : Type 0 where
 abbrev pub SkipLaw : Type 0
 SkipLaw = (p : Plant) (es : List Entry) → SameList p es (without_previews es)
 
+-- the receive of a vector v, where b holds, before the list es
+abbrev pub received_or : Bool → List ℕ → List Entry → List Entry
+received_or b v es = cond b (calls (receiving v) ∷ es) es
+
 -- document 02, E6: the balances start from the counts
 abbrev pub sheets_as_calls : List Entry → List Entry
 sheets_as_calls [] = []
 sheets_as_calls (calls r ∷ es) = calls r ∷ sheets_as_calls es
 sheets_as_calls (previews r ∷ es) = previews r ∷ sheets_as_calls es
-sheets_as_calls (sheets s ∷ es) = cond (is_none (refusal_in s)) (calls (receiving (counts_of s)) ∷ sheets_as_calls es) (sheets_as_calls es)
+sheets_as_calls (sheets s ∷ es) = received_or (is_none (refusal_in s)) (counts_of s) (sheets_as_calls es)
+sheets_as_calls (blends c ks ∷ es) = blends c ks ∷ sheets_as_calls es
 
 abbrev pub SheetLaw : Type 0
 SheetLaw = (p : Plant) (es : List Entry) → SameList p es (sheets_as_calls es)
+
+-- document 02, E10: the draws are counted as received. Whether a blend is refused is tested on the record that it stands on
+abbrev pub blends_as_calls : Plant → List Entry → List Entry
+blends_as_calls p [] = []
+blends_as_calls p (calls r ∷ es) = calls r ∷ blends_as_calls (step p r).plant es
+blends_as_calls p (previews r ∷ es) = previews r ∷ blends_as_calls (preview_of p r).plant es
+blends_as_calls p (sheets s ∷ es) = sheets s ∷ blends_as_calls (sheet_step p s).plant es
+blends_as_calls p (blends c ks ∷ es) =
+    received_or (is_none (first (blend_tests p c ks))) (draws (loads_of c ks)) (blends_as_calls (blend_step p c ks) es)
+
+abbrev pub BlendLaw : Type 0
+BlendLaw = (p : Plant) (es : List Entry) → SameList p es (blends_as_calls p es)

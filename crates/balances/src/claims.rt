@@ -1,5 +1,5 @@
 // The laws of this crate's definitions, as the contract of a function that does nothing: they are proved, or the crate is not.
-ghost use Rattle.balances.specs.Balance.{BalanceLaw, StayLaw, RecycleLaw, MovesLaw, SkipLaw, SheetLaw};
+ghost use Rattle.balances.specs.Balance.{BalanceLaw, StayLaw, RecycleLaw, MovesLaw, SkipLaw, SheetLaw, BlendLaw};
 
 pub fn laws_hold()
     ensures balances { BalanceLaw }
@@ -8,4 +8,5 @@ pub fn laws_hold()
     ensures moves { MovesLaw }
     ensures previews { SkipLaw }
     ensures sheets { SheetLaw }
+    ensures blends { BlendLaw }
 {}

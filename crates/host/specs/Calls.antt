@@ -12,6 +12,7 @@
 --   TotalsCalled                     what is in the tanks, by numbers
 --   AsmToAdmCalled, AdmToAsmCalled   the conversions of a vector by itself
 --   CloseCalled, GapCalled           a proposal closed, and how far off it is
+--   BlendCalled                      several loads in one blend: the columns behind it, the refusal's number and the loads' slice
 --
 -- cs and es are the columns before and behind the call, d and e the buffer before and behind it, ts what is told, r is the result.
 use Rattle.std.specs.Prelude.{not, replicate, List, [], ◌∷◌, ◌++◌, ◌≡◌, ℕ, eqb, length, drop, Float, Result, Ok, Err}
@@ -29,6 +30,7 @@ use Rattle.plant.specs.declared.answer.Request.{Request}
 use Rattle.plant.specs.Calls.{step}
 use Rattle.holding.specs.declared.holding.HeldTotals.{HeldTotals}
 use Rattle.holding.specs.Held.{held_of}
+use Rattle.blends.specs.Blend.{blend, blend_step, loads_left}
 use Rattle.sheets.specs.declared.finding.Finding.{Finding}
 use Rattle.sheets.specs.declared.call.Unseen.{Unseen}
 use Rattle.sheets.specs.Sheet.{sheet_step}
@@ -165,3 +167,10 @@ three_of (Err n) = 0 ∷ 0 ∷ 0 ∷ []
 pub record GapCalled (cs d : List ℕ) (r : ℕ) (ts : List ℕ) : Type 0 where
   pub refusal : r ≡ number_in (gap_of (plant_at cs) d)
   pub told : ts ≡ three_of (gap_of (plant_at cs) d)
+
+-- ---- a blend: c is the loads' slice before it, l the same behind it, and ks that of the k
+
+pub record BlendCalled (cs c ks : List ℕ) (r : ℕ) (es l : List ℕ) : Type 0 where
+  pub columns : es ≡ columns_at (blend_step (plant_at cs) c ks)
+  pub refusal : r ≡ number_in (blend (plant_at cs) c ks)
+  pub loads : l ≡ loads_left (plant_at cs) c ks

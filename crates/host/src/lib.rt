@@ -7,6 +7,7 @@
 //   laboratory   a laboratory sheet by kinds and values
 //   conversions  the two conversions of a vector by itself
 //   proposals    a proposal for settle: what closes it, and how far off it is
+//   hauled       several hauled loads in one blend
 //   record       61 numbers and the plant record that they stand for
 //   request      the requests of the two calls that take a vector
 //   told         the numbers that a call tells, or its refusal
@@ -16,6 +17,7 @@
 mod claims;
 mod composed;
 mod conversions;
+mod hauled;
 mod laboratory;
 mod numbers;
 mod proposals;
@@ -30,6 +32,7 @@ pub use composed::{
     jilghvani_write_release, jilghvani_write_return, jilghvani_write_settle,
 };
 pub use conversions::{jilghvani_adm_to_asm, jilghvani_asm_to_adm};
+pub use hauled::jilghvani_blend;
 pub use laboratory::jilghvani_sheet;
 pub use numbers::{
     jilghvani_feed, jilghvani_fresh, jilghvani_make, jilghvani_receive, jilghvani_recycle,

@@ -25,7 +25,7 @@ pub use answer::{Answer, Call, Outcome, Request, Told, refusal, refusal_of, told
 pub use claims::laws_hold;
 pub use feeding::feed;
 pub use receiving::receive;
-pub use record::{Made, Plant, fresh, make, usable};
+pub use record::{Made, Plant, fresh, is_thousandths, make, usable};
 pub use recycling::recycle;
 pub use releasing::release;
 pub use returning::give_back;

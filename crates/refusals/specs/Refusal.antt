@@ -1,4 +1,4 @@
--- Refusals: document 01, "What the link sends away", and document 02, E6 to E8.
+-- Refusals: document 01, "What the link sends away", and document 02, E6 to E10.
 --
 --   Refusal     the enum of the code
 --   number      its number in the table
@@ -7,7 +7,7 @@ use Rattle.std.specs.Prelude.{ℕ, Option, None, Some}
 use Rattle.refusals.specs.declared.Refusal.{Refusal}
 use Rattle.refusals.specs.declared.Refusal.TheVariants.{RecordAbove, NotThousandths, ColumnAbove, FeedShort, ReturnShort, CodOpen}
 use Rattle.refusals.specs.declared.Refusal.TheVariants.{TknOpen, CarriedOpen, TankAbove, NoForm, ShortBuffer, NoAmount}
-use Rattle.refusals.specs.declared.Refusal.TheVariants.{CountAbove, NotPermitted, Other}
+use Rattle.refusals.specs.declared.Refusal.TheVariants.{CountAbove, NotPermitted, NoBlend, Other}
 
 abbrev pub number : Refusal → ℕ
 number RecordAbove = 1  -- a column of the record is above its ceiling
@@ -25,6 +25,7 @@ number ShortBuffer = 12  -- the buffer is under 512 bytes for an answer, or unde
 number NoAmount = 13  -- E6: a value is negative, infinite or no number
 number CountAbove = 14  -- E6: a count is above its column's ceiling
 number NotPermitted = 15  -- E7: the figures are no permitted set
+number NoBlend = 16  -- E10: not one to eight loads, or not thirteen columns for each k
 number (Other n) = n
 
 abbrev pub number_of : Option Refusal → ℕ

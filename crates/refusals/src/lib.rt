@@ -37,6 +37,8 @@ pub enum Refusal {
     CountAbove,
     // 15: the figures of a record, or those wished for, are no permitted set.
     NotPermitted,
+    // 16: what is lent for a blend is not one to eight loads, or the two slices do not agree in length.
+    NoBlend,
     Other(u64),
 }
 
@@ -60,6 +62,7 @@ impl Refusal {
             Refusal::NoAmount => 13,
             Refusal::CountAbove => 14,
             Refusal::NotPermitted => 15,
+            Refusal::NoBlend => 16,
             Refusal::Other(n) => n,
         }
     }

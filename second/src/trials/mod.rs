@@ -9,11 +9,13 @@
 //! - `previews`: lines as previews, or nearly so;
 //! - `writing`: calls to be written as lines, and the buffers lent for them;
 //! - `sheets`: laboratory sheets, and sludge tanks that they just fit or pass;
+//! - `blends`: hauled loads with their ks, and sludge tanks that they just fit or pass;
 //! - `table`: the sheets of `exact_sheets.py` with their answers;
-//! - here: a call written as a line, and the choice of the next record, line, call and
-//!   vector.
+//! - here: a call written as a line, and the choice of the next record, line, call, vector
+//!   and blend.
 
 pub mod amounts;
+pub mod blends;
 pub mod damage;
 pub mod edges;
 pub mod figures;
@@ -29,6 +31,7 @@ use crate::plant::{Call, Plant};
 use crate::random::Random;
 use crate::tables::*;
 use amounts::Scale;
+use blends::Blend;
 use std::collections::VecDeque;
 use std::io::Write;
 
@@ -236,6 +239,19 @@ impl Trial {
     pub fn to_close(&mut self, plant: &mut Plant) -> Digester {
         self.follow(plant);
         proposals::to_close(&mut self.random, &self.scale.figures, &mut plant.digester)
+    }
+
+    /// A blend of hauled loads for this record.
+    pub fn blend(&mut self, plant: &Plant) -> Blend {
+        self.follow(plant);
+        blends::any(&mut self.random, &self.scale)
+    }
+
+    /// A blend that is not turned away for itself, and this record with a sludge tank that it
+    /// just fits or passes by one.
+    pub fn blend_at_the_ceilings(&mut self, plant: &Plant) -> (Blend, Plant) {
+        self.follow(plant);
+        blends::at_the_ceilings(&mut self.random, &self.scale, plant)
     }
 
     /// A call that no step before it asks for.

@@ -1,11 +1,11 @@
--- The balances over any list of calls, previews and sheets. Assumes nothing.
+-- The balances over any list of calls, previews, sheets and blends. Assumes nothing.
 --
 --   Quantity           what a balance is about: a total of each vector, and what a call lets go of it
 --   Kept               one call keeps a quantity
 --   fed-kept, ..       what becomes of a conversion does
 --   done-kept          each call does where no refusal applies
 --   step_kept          any call does
---   sheet-kept         a sheet does
+--   receive-kept       what is a receive or nothing, as a sheet and a blend are, does
 --   over               so does every list of them and of previews
 --   cod-quantity, ..   the four quantities
 --   balance            BalanceLaw
@@ -14,6 +14,7 @@
 --   recycle-moves      MovesLaw
 --   previews-skipped   SkipLaw
 --   sheets-as-calls    SheetLaw
+--   blends-as-calls    BlendLaw
 use mathlib.Core.Bool.{Bool, true, false, cond}
 use mathlib.Core.List.{List, [], ◌∷◌}
 use mathlib.Core.Path.{◌≡◌, refl, ap, subst, ◌∙◌}
@@ -27,7 +28,7 @@ use Rattle.refusals.specs.Refusal.{number, number_of}
 use Rattle.refusals.specs.Tests.{unless, first}
 use Rattle.interface.specs.declared.feed.Fed as in_feed
 use Rattle.interface.specs.declared.returning.Returned as in_return
-use Rattle.std.specs.Prelude.{Float, is_none}
+use Rattle.std.specs.Prelude.{is_none}
 use Rattle.vectors.specs.declared.figures.Figures.{Figures}
 use Rattle.vectors.specs.Figures.{Permitted}
 use Rattle.vectors.specs.Columns.{asm1_ceilings, within, added}
@@ -57,12 +58,14 @@ use Rattle.plant.specs.Calls.{receiving, recycling}
 use Rattle.plant.proofs.Laws.Record.{usable-permitted, thousandths-le}
 use Rattle.plant.proofs.Laws.Calls.{settle-passed, figures-kept}
 use Rattle.plant.proofs.Laws.Decision.{decide-case, passed-by, draw-passed}
-use Rattle.sheets.specs.declared.finding.Finding.{Finding}
 use Rattle.sheets.specs.Sheet.{refusal_in, counts_of, sheet_step}
 use Rattle.sheets.proofs.Laws.Sheet.{sheet-plant, sheet-figures}
-use Rattle.balances.specs.Balance.{Entry, calls, previews, sheets, after, sheet_adds, sum_over, without_previews, sheets_as_calls}
+use Rattle.blends.specs.Blend.{loads_of, draws, blend_tests, blend_step}
+use Rattle.blends.proofs.Laws.Draws.{blend-plant, blend-figures}
+use Rattle.balances.specs.Balance.{Entry, calls, previews, sheets, blends, after, receive_adds, sheet_adds, blend_adds, sum_over}
+use Rattle.balances.specs.Balance.{without_previews, received_or, sheets_as_calls, blends_as_calls}
 use Rattle.balances.specs.Balance.{counts, if_accepted, received_by, released_by, gas_by, BalanceLaw, StayLaw, RecycleLaw, SkipLaw}
-use Rattle.balances.specs.Balance.{SheetLaw, Moved, MovesLaw}
+use Rattle.balances.specs.Balance.{SheetLaw, BlendLaw, Moved, MovesLaw}
 
 -- ---- quantities
 
@@ -159,7 +162,7 @@ module _ (q : Quantity) where
       (λ e. omega (arith, done-kept p (call.Recycle k) no_columns no_columns e, q.silent 0))
       (λ n. refl)
 
-  -- ---- a list of calls, previews and sheets
+  -- ---- a list of calls, previews, sheets and blends
 
   abbrev let_go : Request → Outcome → ℕ
   let_go r o = q.lost (told o.answer) (gas_by r o)
@@ -170,25 +173,17 @@ module _ (q : Quantity) where
       let o = step p r in
       in_tanks p + received_by (q.asm1 f) r o ≡ in_tanks o.plant + released_by (q.asm1 f) r o + let_go r o
 
-  abbrev SheetKept : Plant → List (Finding Float) → Figures → Type 0
-  SheetKept p s f =
-      in_tanks p + sheet_adds (received_by (q.asm1 f)) p s
-      ≡ in_tanks (sheet_step p s).plant + sheet_adds (released_by (q.asm1 f)) p s + sheet_adds let_go p s
+  -- the receive of v on p, where b holds, with the record r after it
+  abbrev ReceiveKept : Plant → Bool → List ℕ → Plant → Figures → Type 0
+  ReceiveKept p b v r f =
+      in_tanks p + receive_adds (received_by (q.asm1 f)) p b v
+      ≡ in_tanks r + receive_adds (released_by (q.asm1 f)) p b v + receive_adds let_go p b v
 
-  -- a sheet is the receive of its counts, or nothing
-  sheet-kept : (p : Plant) (s : List (Finding Float)) → SheetKept p s p.figures
-  sheet-kept p s = rw (sheet-plant p s) (go (is_none (refusal_in s)))
-    where
-      r : Request
-      r = receiving (counts_of s)
-
-      o : Outcome
-      o = step p r
-
-      go : (b : Bool) → in_tanks p + cond b (received_by (q.asm1 p.figures) r o) 0
-          ≡ in_tanks (cond b o.plant p) + cond b (released_by (q.asm1 p.figures) r o) 0 + cond b (let_go r o) 0
-      go true = step_kept p r.call r.sludge r.digester
-      go false = omega arith
+  receive-kept : (p : Plant) (b : Bool) (v : List ℕ) {r : Plant} {f : Figures} → r ≡ cond b (step p (receiving v)).plant p
+      → p.figures ≡ f → ReceiveKept p b v r f
+  receive-kept p true v {f = f} e g =
+      rw e (subst (CallKept p (receiving v)) g (step_kept p (receiving v).call (receiving v).sludge (receiving v).digester))
+  receive-kept p false v e g = rw e (omega arith)
 
   -- on a record of the figures f
   over : (f : Figures) (p : Plant) → p.figures ≡ f → (es : List Entry)
@@ -201,7 +196,11 @@ module _ (q : Quantity) where
       omega (arith, kept, over f (step p r).plant (figures-kept p r ∙ g) es)
   over f p g (previews r ∷ es) = omega (arith, over f p g es)
   over f p g (sheets s ∷ es) =
-      omega (arith, subst (SheetKept p s) g (sheet-kept p s), over f (sheet_step p s).plant (sheet-figures p s ∙ g) es)
+      let kept = receive-kept p (is_none (refusal_in s)) (counts_of s) (sheet-plant p s) g in
+      omega (arith, kept, over f (sheet_step p s).plant (sheet-figures p s ∙ g) es)
+  over f p g (blends c ks ∷ es) =
+      let kept = receive-kept p (is_none (first (blend_tests p c ks))) (draws (loads_of c ks)) (blend-plant p c ks) g in
+      omega (arith, kept, over f (blend_step p c ks) (blend-figures p c ks ∙ g) es)
 
   from-fresh : (f : Figures) (es : List Entry)
       → sum_over (received_by (q.asm1 f)) (fresh_plant f) es
@@ -274,6 +273,13 @@ nitrate-quantity =
 -- ---- the law
 
 -- the three sums of COD that is let go are the sum of the three
+cod-added : (p : Plant) (b : Bool) (v : List ℕ)
+    → receive_adds (λ r o. cod_lost (told o.answer) (gas_by r o)) p b v
+    ≡ receive_adds (λ r o. (told o.answer).burnt) p b v + receive_adds gas_by p b v + receive_adds (λ r o. (told o.answer).stripped) p b v
+unfolding cod_lost
+cod-added p true v = refl
+cod-added p false v = refl
+
 cod-sums : (p : Plant) (es : List Entry)
     → sum_over (λ r o. cod_lost (told o.answer) (gas_by r o)) p es
     ≡ sum_over (λ r o. (told o.answer).burnt) p es + sum_over gas_by p es + sum_over (λ r o. (told o.answer).stripped) p es
@@ -281,28 +287,24 @@ unfolding cod_lost
 cod-sums p [] = refl
 cod-sums p (calls r ∷ es) = omega (arith, cod-sums (step p r).plant es)
 cod-sums p (previews r ∷ es) = cod-sums (preview_of p r).plant es
-cod-sums p (sheets s ∷ es) = omega (arith, adds (is_none (refusal_in s)), cod-sums (sheet_step p s).plant es)
-  where
-    r : Request
-    r = receiving (counts_of s)
+cod-sums p (sheets s ∷ es) =
+    omega (arith, cod-added p (is_none (refusal_in s)) (counts_of s), cod-sums (sheet_step p s).plant es)
+cod-sums p (blends c ks ∷ es) =
+    let added = cod-added p (is_none (first (blend_tests p c ks))) (draws (loads_of c ks)) in
+    omega (arith, added, cod-sums (blend_step p c ks) es)
 
-    o : Outcome
-    o = step p r
-
-    adds : (b : Bool) → cond b (cod_lost (told o.answer) (gas_by r o)) 0
-        ≡ cond b (told o.answer).burnt 0 + cond b (gas_by r o) 0 + cond b (told o.answer).stripped 0
-    adds true = refl
-    adds false = refl
+none-added : (p : Plant) (b : Bool) (v : List ℕ) → receive_adds (λ r o. 0) p b v ≡ 0
+none-added p true v = refl
+none-added p false v = refl
 
 no-sum : (p : Plant) (es : List Entry) → sum_over (λ r o. 0) p es ≡ 0
 no-sum p [] = refl
 no-sum p (calls r ∷ es) = omega (arith, no-sum (step p r).plant es)
 no-sum p (previews r ∷ es) = no-sum (preview_of p r).plant es
-no-sum p (sheets s ∷ es) = omega (arith, adds (is_none (refusal_in s)), no-sum (sheet_step p s).plant es)
-  where
-    adds : (b : Bool) → ◌≡◌ {A = ℕ} (cond b 0 0) 0
-    adds true = refl
-    adds false = refl
+no-sum p (sheets s ∷ es) = omega (arith, none-added p (is_none (refusal_in s)) (counts_of s), no-sum (sheet_step p s).plant es)
+no-sum p (blends c ks ∷ es) =
+    let none = none-added p (is_none (first (blend_tests p c ks))) (draws (loads_of c ks)) in
+    omega (arith, none, no-sum (blend_step p c ks) es)
 
 pub balance : BalanceLaw
 unfolding cod-quantity tkn-quantity oxygen-quantity nitrate-quantity
@@ -320,6 +322,7 @@ figures-stay p [] = refl
 figures-stay p (calls r ∷ es) = figures-stay (step p r).plant es ∙ figures-kept p r
 figures-stay p (previews r ∷ es) = figures-stay p es
 figures-stay p (sheets s ∷ es) = figures-stay (sheet_step p s).plant es ∙ sheet-figures p s
+figures-stay p (blends c ks ∷ es) = figures-stay (blend_step p c ks) es ∙ blend-figures p c ks
 
 pub recycle-holds : RecycleLaw
 unfolding cod-quantity tkn-quantity oxygen-quantity nitrate-quantity
@@ -359,6 +362,7 @@ after-skipped p [] = refl
 after-skipped p (calls r ∷ es) = after-skipped (step p r).plant es
 after-skipped p (previews r ∷ es) = after-skipped p es
 after-skipped p (sheets s ∷ es) = after-skipped (sheet_step p s).plant es
+after-skipped p (blends c ks ∷ es) = after-skipped (blend_step p c ks) es
 
 sums-skipped : (of : Request → Outcome → ℕ) (p : Plant) (es : List Entry)
     → sum_over of p es ≡ sum_over of p (without_previews es)
@@ -367,39 +371,63 @@ sums-skipped of p [] = refl
 sums-skipped of p (calls r ∷ es) = ap (λ n. of r (step p r) + n) (sums-skipped of (step p r).plant es)
 sums-skipped of p (previews r ∷ es) = sums-skipped of p es
 sums-skipped of p (sheets s ∷ es) = ap (λ n. sheet_adds of p s + n) (sums-skipped of (sheet_step p s).plant es)
+sums-skipped of p (blends c ks ∷ es) = ap (λ n. blend_adds of p c ks + n) (sums-skipped of (blend_step p c ks) es)
 
 pub previews-skipped : SkipLaw
 previews-skipped p es = record { plant = after-skipped p es; sums = λ of. sums-skipped of p es }
 
--- ---- sheets
+-- ---- sheets and blends as calls
+
+-- the receive of v on p, where b holds, and the lists es behind it and ds in its place
+module _ (p : Plant) (v : List ℕ) (ds es : List Entry) where
+  after-received : (b : Bool) {q : Plant} → q ≡ cond b (step p (receiving v)).plant p → after q es ≡ after q ds
+      → after q es ≡ after p (received_or b v ds)
+  after-received true e h = h ∙ ap (λ (q : Plant). after q ds) e
+  after-received false e h = h ∙ ap (λ (q : Plant). after q ds) e
+
+  sums-received : (of : Request → Outcome → ℕ) (b : Bool) {q : Plant} → q ≡ cond b (step p (receiving v)).plant p
+      → sum_over of q es ≡ sum_over of q ds → receive_adds of p b v + sum_over of q es ≡ sum_over of p (received_or b v ds)
+  sums-received of true e h = ap (λ n. of (receiving v) (step p (receiving v)) + n) (h ∙ ap (λ (q : Plant). sum_over of q ds) e)
+  sums-received of false e h = zero-add _ ∙ h ∙ ap (λ (q : Plant). sum_over of q ds) e
 
 after-as-calls : (p : Plant) (es : List Entry) → after p es ≡ after p (sheets_as_calls es)
 after-as-calls p [] = refl
 after-as-calls p (calls r ∷ es) = after-as-calls (step p r).plant es
 after-as-calls p (previews r ∷ es) = after-as-calls (preview_of p r).plant es
-after-as-calls p (sheets s ∷ es) = rw (sheet-plant p s) (go (is_none (refusal_in s)) (λ q. after-as-calls q es))
-  where
-    go : (b : Bool) → ((q : Plant) → after q es ≡ after q (sheets_as_calls es))
-        → after (cond b (step p (receiving (counts_of s))).plant p) es
-        ≡ after p (cond b (calls (receiving (counts_of s)) ∷ sheets_as_calls es) (sheets_as_calls es))
-    go true h = h (step p (receiving (counts_of s))).plant
-    go false h = h p
+after-as-calls p (sheets s ∷ es) =
+    after-received p (counts_of s) _ es (is_none (refusal_in s)) (sheet-plant p s) (after-as-calls (sheet_step p s).plant es)
+after-as-calls p (blends c ks ∷ es) = after-as-calls (blend_step p c ks) es
 
 sums-as-calls : (of : Request → Outcome → ℕ) (p : Plant) (es : List Entry)
     → sum_over of p es ≡ sum_over of p (sheets_as_calls es)
 sums-as-calls of p [] = refl
 sums-as-calls of p (calls r ∷ es) = ap (λ n. of r (step p r) + n) (sums-as-calls of (step p r).plant es)
 sums-as-calls of p (previews r ∷ es) = sums-as-calls of (preview_of p r).plant es
-sums-as-calls of p (sheets s ∷ es) = rw (sheet-plant p s) (go (is_none (refusal_in s)) (λ q. sums-as-calls of q es))
-  where
-    r : Request
-    r = receiving (counts_of s)
-
-    go : (b : Bool) → ((q : Plant) → sum_over of q es ≡ sum_over of q (sheets_as_calls es))
-        → cond b (of r (step p r)) 0 + sum_over of (cond b (step p r).plant p) es
-        ≡ sum_over of p (cond b (calls r ∷ sheets_as_calls es) (sheets_as_calls es))
-    go true h = ap (λ n. of r (step p r) + n) (h (step p r).plant)
-    go false h = zero-add (sum_over of p es) ∙ h p
+sums-as-calls of p (sheets s ∷ es) =
+    sums-received p (counts_of s) _ es of (is_none (refusal_in s)) (sheet-plant p s) (sums-as-calls of (sheet_step p s).plant es)
+sums-as-calls of p (blends c ks ∷ es) = ap (λ n. blend_adds of p c ks + n) (sums-as-calls of (blend_step p c ks) es)
 
 pub sheets-as-calls : SheetLaw
 sheets-as-calls p es = record { plant = after-as-calls p es; sums = λ of. sums-as-calls of p es }
+
+after-blended : (p : Plant) (es : List Entry) → after p es ≡ after p (blends_as_calls p es)
+after-blended p [] = refl
+after-blended p (calls r ∷ es) = after-blended (step p r).plant es
+after-blended p (previews r ∷ es) = after-blended (preview_of p r).plant es
+after-blended p (sheets s ∷ es) = after-blended (sheet_step p s).plant es
+after-blended p (blends c ks ∷ es) =
+    let b = is_none (first (blend_tests p c ks)) in
+    after-received p (draws (loads_of c ks)) _ es b (blend-plant p c ks) (after-blended (blend_step p c ks) es)
+
+sums-blended : (of : Request → Outcome → ℕ) (p : Plant) (es : List Entry)
+    → sum_over of p es ≡ sum_over of p (blends_as_calls p es)
+sums-blended of p [] = refl
+sums-blended of p (calls r ∷ es) = ap (λ n. of r (step p r) + n) (sums-blended of (step p r).plant es)
+sums-blended of p (previews r ∷ es) = sums-blended of (preview_of p r).plant es
+sums-blended of p (sheets s ∷ es) = ap (λ n. sheet_adds of p s + n) (sums-blended of (sheet_step p s).plant es)
+sums-blended of p (blends c ks ∷ es) =
+    let b = is_none (first (blend_tests p c ks)) in
+    sums-received p (draws (loads_of c ks)) _ es of b (blend-plant p c ks) (sums-blended of (blend_step p c ks) es)
+
+pub blends-as-calls : BlendLaw
+blends-as-calls p es = record { plant = after-blended p es; sums = λ of. sums-blended of p es }

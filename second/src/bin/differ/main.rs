@@ -9,11 +9,13 @@
 //! - `library`: lists of calls through the library, their lines and held lines;
 //! - `numbers`: the calls by numbers in these lists;
 //! - `sheets`: the laboratory sheets in them, and those of a table;
+//! - `blends`: the blends of hauled loads in them;
 //! - `writing`: the calls that are written as lines in them;
 //! - `guarded`: what is lent to the library, between guards;
 //! - `tally`: how many answers of each kind were compared;
 //! - here: the options and the report.
 
+mod blends;
 mod guarded;
 mod library;
 mod numbers;

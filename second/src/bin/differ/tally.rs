@@ -9,9 +9,11 @@ use std::ops::RangeInclusive;
 /// The kinds of answers: lines by the call they ask or preview, or where they are no forms, apart
 /// those that are none for the order of their fields alone and previews inside previews; the held
 /// line; the sets behind `--figures`; the functions that are called by numbers; sheets that are
-/// made for their record and those of the table stand below the others; a gap that is told stands
-/// by where it is; and the functions that write a call's line, below each the same for its preview.
-const KINDS: [&str; 49] = [
+/// made for their record and those of the table stand below the others; so do blends of one load
+/// and of eight, those whose lengths are turned away, those that are made for their record, and
+/// those in another order; a gap that is told stands by where it is; and the functions that write
+/// a call's line, below each the same for its preview.
+const KINDS: [&str; 57] = [
     "receive",
     "feed",
     "settle",
@@ -35,6 +37,14 @@ const KINDS: [&str; 49] = [
     "jilghvani_sheet",
     "  sheet at the ceilings",
     "  sheet of the table",
+    "jilghvani_blend",
+    "  one load",
+    "  eight loads",
+    "  no loads",
+    "  nine loads and more",
+    "  loads of other lengths",
+    "  blend at the ceilings",
+    "  in another order",
     "jilghvani_feed",
     "jilghvani_settle",
     "jilghvani_return",
@@ -116,7 +126,7 @@ pub fn refusal_of(answer: &[u8]) -> usize {
 }
 
 /// The greatest number of a refusal.
-pub const LAST_REFUSAL: usize = 15;
+pub const LAST_REFUSAL: usize = 16;
 
 /// How often each outcome was met; outcome 0 is accepted.
 type Outcomes = [u64; LAST_REFUSAL + 1];

@@ -1,5 +1,6 @@
 -- `balances::claims::laws_hold` meets its contract. Assumes nothing.
-use Rattle.balances.proofs.Laws.Balance.{balance, figures-stay, recycle-holds, recycle-moves, previews-skipped, sheets-as-calls}
+use Rattle.balances.proofs.Laws.Balance.{balance, figures-stay, recycle-holds, recycle-moves, previews-skipped}
+use Rattle.balances.proofs.Laws.Balance.{sheets-as-calls, blends-as-calls}
 use Rattle.balances.proofs.claims.laws_hold.Goals as goal
 
 pub returns-clause-balances : goal.returns-clause-balances
@@ -19,3 +20,6 @@ returns-clause-sheets c = sheets-as-calls
 
 pub returns-clause-moves : goal.returns-clause-moves
 returns-clause-moves c = recycle-moves
+
+pub returns-clause-blends : goal.returns-clause-blends
+returns-clause-blends c = blends-as-calls

@@ -1,0 +1,3 @@
+-- Laws of blends.
+pub mod Blend
+pub mod Draws
