@@ -5,7 +5,7 @@
 --   DrawsLaw      a total of all draws is the sum of the totals of each
 --   ReceivesLaw   an accepted blend does to the record what a receive of all draws does
 --   KeptLaw       a refused blend leaves the loads as they were
-use Rattle.std.specs.Prelude.{true, Ok, Err, List, ◌≡◌, ℕ, ◌+◌, ◌/◌, get_or}
+use Rattle.std.specs.Prelude.{Ok, Err, List, ◌≡◌, ℕ, ◌+◌, ◌*◌, ◌/◌, length, get_or}
 use Rattle.std.specs.List.{sum_by}
 use Rattle.std.specs.List.Sorted.{IsPermutation}
 use Rattle.refusals.specs.declared.Refusal.{Refusal}
@@ -15,12 +15,12 @@ use Rattle.plant.specs.declared.record.Plant.{Plant}
 use Rattle.plant.specs.declared.answer.Answer.TheVariants as answer
 use Rattle.plant.specs.Record.{no_columns}
 use Rattle.plant.specs.Calls.{step, receiving}
-use Rattle.blends.specs.Blend.{Load, loads_of, are_loads, draw_of, draws, blend, loads_left}
+use Rattle.blends.specs.Blend.{Load, loads_of, draw_of, draws, blend, loads_left}
 
--- by two slices of columns and two of k, each a blend's: whatever the order, blend answers the same
+-- by two slices of columns and two of k, thirteen columns for each k: whatever the order, blend answers the same
 abbrev pub OrderLaw : Type 0
 OrderLaw =
-    (p : Plant) (c ks d js : List ℕ) → are_loads c ks ≡ true → are_loads d js ≡ true
+    (p : Plant) (c ks d js : List ℕ) → length c ≡ 13 * length ks → length d ≡ 13 * length js
     → IsPermutation (loads_of c ks) (loads_of d js)
     → blend p c ks ≡ blend p d js
 

@@ -1,10 +1,10 @@
 // The call: all draws are added to the sludge tank and taken from the loads.
-ghost use Rattle.std.specs.Prelude.{◌≡◌, ◌≤◌, ◌*◌, true, length, cond, Some, None};
+ghost use Rattle.std.specs.Prelude.{◌≡◌, ◌*◌, true, length, cond, Some, None};
 ghost use Rattle.std.specs.List.{list_all, zip};
 ghost use Rattle.vectors.specs.Columns.{asm1_ceilings, within, added};
 ghost use Rattle.plant.specs.Record.{thousandths};
 ghost use Rattle.refusals.specs.Tests.{first, decide};
-ghost use Rattle.blends.specs.Blend.{Load, loads_of, are_loads, each_k, each_within, draws, rests, blend_tests, blend, loads_left};
+ghost use Rattle.blends.specs.Blend.{loads_of, are_loads, each_within, draws, rests, blend_tests, blend, loads_left};
 
 use plant::{Plant, is_thousandths, usable};
 use refusals::{Refusal, unless};
@@ -67,7 +67,8 @@ fn with_draws(sludge: [u64; 13], loads: &[[u64; 13]], ks: &[u64]) -> Option<[u64
     Some(sum)
 }
 
-// What stays of each column takes its place.
+// What stays of each column takes its place. It goes by places, and asks no `vectors::rest`: of a slice that is lent in thirteens for
+// writing (`as_chunks_mut`) nothing is known at its end.
 fn draw_off(loads: &mut [u64], ks: &[u64])
     requires long { length loads.old ≡ 13 * length ks.now }
     requires ks { list_all thousandths ks.now ≡ true }

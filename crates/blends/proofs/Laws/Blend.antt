@@ -1,16 +1,16 @@
 -- Laws of blends. Assumes nothing.
 --
---   added-nil, added-assoc     sums of vectors
---   within-first               a sum within its ceilings has terms within them
---   draw-next                  one draw more into the tank
---   rests-length, rests-at     what stays, at a place of the slice
---   columns-low, k-low         the columns and the k of accepted loads
+--   added-nil, added-assoc          sums of vectors
+--   within-first, within-second     a sum within its ceilings has terms within them
+--   draw-next                       one draw more into the tank
+--   rests-length, rests-at          what stays, at a place of the slice
+--   columns-low, k-low              the columns and the k of accepted loads
 use mathlib.Core.Bool.{Bool, true, false, ◌&&◌, cond}
 use mathlib.Core.List.{List, [], ◌∷◌, map}
 use mathlib.Core.Path.{◌≡◌, refl, sym, ap, ◌∙◌}
 use Prim.Native.Nat.{ℕ, zero, suc, ◌+◌, ◌-◌, ◌*◌, ◌/◌, ◌≤◌, ◌<◌}
 use native.Mathlib.Omega.{arith}
-use native.Mathlib.Nat.{add_assoc}
+use native.Mathlib.Nat.{add_assoc, add_comm}
 use native.Mathlib.Numerals.{add-one}
 use lib.Dec.{leb, ltb}
 use borrow.Author.Tests.{ltb-true, ltb-false}
@@ -43,6 +43,13 @@ unfolding added
 added-nil [] = refl
 added-nil (x ∷ v) = refl
 
+added-comm : (a b : List ℕ) → added a b ≡ added b a
+unfolding added
+added-comm [] [] = refl
+added-comm [] (y ∷ b) = refl
+added-comm (x ∷ a) [] = refl
+added-comm (x ∷ a) (y ∷ b) = rw (add_comm x y, added-comm a b)
+
 pub added-assoc : (a b c : List ℕ) → added (added a b) c ≡ added a (added b c)
 unfolding added
 added-assoc [] b c = refl
@@ -59,6 +66,10 @@ within-first [] (x ∷ a) (y ∷ b) e = absurd (false≢true e)
 within-first (c ∷ cs) (x ∷ a) (y ∷ b) e =
     let p = and_parts (leb (x + y) c) (within cs (added a b)) e in
     rw (le-leb x c (omega (arith, leb-true (x + y) c p.0))) (within-first cs a b p.1)
+
+-- and its second
+pub within-second : (cs a b : List ℕ) → within cs (added a b) ≡ true → within cs b ≡ true
+within-second cs a b e = within-first cs b a (ap (within cs) (added-comm b a) ∙ e)
 
 -- ---- one load after the other
 
@@ -189,6 +200,9 @@ module _ {A : Type 0} where
   all-first p [] (k ∷ ks) e = absurd (omega arith)
   all-first p (v ∷ vs) [] e = absurd (omega arith)
   all-first p (v ∷ vs) (k ∷ ks) e = ap (λ b. p v && b) (all-first p vs ks (omega arith))
+
+pub loads-length : (ks c : List ℕ) → length (loads_of c ks) ≡ length ks
+loads-length ks c = omega (arith, length-zip (first_chunks 13 (length ks) c) ks, chunks-length 13 (length ks) c)
 
 pub k-tests : (c ks : List ℕ) → list_all thousandths ks ≡ each_k (loads_of c ks)
 k-tests c ks = all-second thousandths (first_chunks 13 (length ks) c) ks (chunks-length 13 (length ks) c)

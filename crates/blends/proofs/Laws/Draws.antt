@@ -11,21 +11,20 @@
 --   order-kept           OrderLaw
 use mathlib.Core.Bool.{Bool, true, false, ◌&&◌, cond}
 use mathlib.Core.List.{List, [], ◌∷◌}
-use mathlib.Core.Path.{◌≡◌, refl, sym, ap, ◌∙◌}
-use Prim.Native.Nat.{ℕ, zero, suc, ◌+◌, ◌*◌, ◌/◌, ◌≤◌}
+use mathlib.Core.Path.{◌≡◌, refl, sym, ap, ap₂, ◌∙◌}
+use Prim.Native.Nat.{ℕ, zero, suc, ◌+◌, ◌*◌, ◌/◌}
 use native.Mathlib.Nat.{zero-add}
 use native.Mathlib.Numerals.{one-add}
 use native.Mathlib.Omega.{arith}
-use lib.Dec.{leb, eqb, ltb}
+use lib.Dec.{leb, ltb}
 use lib.ListN.{length, get_or, take, drop}
-use borrow.Author.Tests.{ltb-true, ltb-false}
-use Rattle.std.proofs.lemmas.Bool.{and_parts, false≢true, leb-true, le-leb}
+use borrow.Author.Tests.{ltb-true, ltb-false, eq-eqb}
 use Rattle.std.proofs.lemmas.List.{get_or_past, length-map, ext_get_or}
 use Rattle.std.specs.Prelude.{Option, Some, None, is_none, Result, Err}
 use Rattle.std.specs.List.{list_all, sum_by}
 use Rattle.std.specs.List.Sorted.{IsPermutation}
 use Rattle.std.proofs.lemmas.List.Sums.{sum_by-cons}
-use Rattle.std.proofs.lemmas.List.Sorted.{sum_by-IsPermutation}
+use Rattle.std.proofs.lemmas.List.Sorted.{sum_by-IsPermutation, length_permutation}
 use Rattle.refusals.specs.declared.Refusal.{Refusal}
 use Rattle.refusals.specs.declared.Refusal.TheVariants.{NotThousandths, ColumnAbove, TankAbove, NoBlend}
 use Rattle.refusals.specs.Tests.{unless, first, decide}
@@ -42,7 +41,7 @@ use Rattle.blends.specs.Blend.{Load, loads_of, are_loads, draw_of, draws, rests,
 use Rattle.blends.specs.Blend.{left_by, loads_left}
 use Rattle.blends.specs.Laws.{OrderLaw, ColumnLaw, DrawsLaw, ReceivesLaw, KeptLaw}
 use Rattle.blends.proofs.Laws.Blend.{decide-ok, Passed, tests-passed, rests-at, rests-length, are-loads-long, k-low, long-first, long-next}
-use Rattle.blends.proofs.Laws.Blend.{added-nil}
+use Rattle.blends.proofs.Laws.Blend.{added-nil, within-second, loads-length}
 
 -- ---- all draws
 
@@ -88,16 +87,6 @@ column-splits-left p c ks q e i =
         let ge = ltb-false i (length c) t in
         let past = get_or_past (rests (loads_of c ks)) i 0 (omega (arith, rests-length ks c long)) in
         rw (none, get_or_past c i 0 ge) (omega (arith, past))
-
--- what no refusal tells of the sum of all draws
-within-second : (cs a b : List ℕ) → within cs (added a b) ≡ true → within cs b ≡ true
-unfolding added within
-within-second cs [] b e = e
-within-second cs (x ∷ a) [] e = refl
-within-second [] (x ∷ a) (y ∷ b) e = absurd (false≢true e)
-within-second (c ∷ cs) (x ∷ a) (y ∷ b) e =
-    let p = and_parts (leb (x + y) c) (within cs (added a b)) e in
-    rw (le-leb y c (omega (arith, leb-true (x + y) c p.0))) (within-second cs a b p.1)
 
 pub blend-receives : ReceivesLaw
 unfolding blend step_by ruled receive
@@ -151,29 +140,37 @@ all-permutation : {A : Type 0} (p : A → Bool) (xs ys : List A) → IsPermutati
 all-permutation p xs ys s =
     all-sum p xs ∙ ap is_zero (sym (sum_by-IsPermutation (λ x. cond (p x) 0 1) xs ys s)) ∙ sym (all-sum p ys)
 
--- thirteen columns, where there is a load
-draws-length : (ks c : List ℕ) → length c ≡ 13 * length ks → 1 ≤ length ks → length (draws (loads_of c ks)) ≡ 13
+-- none of no loads, else thirteen
+abbrev columns_of : ℕ → ℕ
+columns_of zero = 0
+columns_of (suc n) = 13
+
+draws-length : (ks c : List ℕ) → length c ≡ 13 * length ks → length (draws (loads_of c ks)) ≡ columns_of (length ks)
 unfolding draws
-draws-length [] c long h = absurd (omega arith)
-draws-length (k ∷ []) c long h = rw (added-nil (drawn k (take 13 c))) (length-map (take 13 c) (part k) ∙ long-first k [] c long)
-draws-length (k ∷ j ∷ ks) c long h =
+draws-length [] c long = refl
+draws-length (k ∷ []) c long = rw (added-nil (drawn k (take 13 c))) (length-map (take 13 c) (part k) ∙ long-first k [] c long)
+draws-length (k ∷ j ∷ ks) c long =
     let first = length-map (take 13 c) (part k) ∙ long-first k (j ∷ ks) c long in
-    let next = draws-length (j ∷ ks) (drop 13 c) (long-next k (j ∷ ks) c long) (omega arith) in
+    let next = draws-length (j ∷ ks) (drop 13 c) (long-next k (j ∷ ks) c long) in
     added-length (drawn k (take 13 c)) (draws (loads_of (drop 13 c) (j ∷ ks))) (next ∙ sym first) ∙ first
 
-are-loads-some : (c ks : List ℕ) → are_loads c ks ≡ true → 1 ≤ length ks
-are-loads-some c ks e =
-    let counts = (and_parts _ (eqb (length c) (13 * length ks)) e).0 in
-    leb-true 1 (length ks) (and_parts (leb 1 (length ks)) (leb (length ks) 8) counts).0
+-- two slices of columns and two of k, whose loads are the same in some order
+module _ (c ks d js : List ℕ) (e : length c ≡ 13 * length ks) (f : length d ≡ 13 * length js)
+    (s : IsPermutation (loads_of c ks) (loads_of d js)) where
+  as-many : length ks ≡ length js
+  as-many = sym (loads-length ks c) ∙ sym (length_permutation (loads_of c ks) (loads_of d js) s) ∙ loads-length js d
 
-draws-permutation : (c ks d js : List ℕ) → are_loads c ks ≡ true → are_loads d js ≡ true → IsPermutation (loads_of c ks) (loads_of d js)
-    → draws (loads_of c ks) ≡ draws (loads_of d js)
-draws-permutation c ks d js e f s =
-    let ls = loads_of c ks in
-    let ms = loads_of d js in
-    let long = draws-length ks c (are-loads-long c ks e) (are-loads-some c ks e) in
-    ext_get_or 0 (draws ls) (draws ms) (long ∙ sym (draws-length js d (are-loads-long d js f) (are-loads-some d js f)))
-    (λ i h. draws-column ls i ∙ sym (sum_by-IsPermutation (λ l. get_or (draw_of l) i 0) ls ms s) ∙ sym (draws-column ms i))
+  are-loads-permutation : are_loads c ks ≡ are_loads d js
+  are-loads-permutation =
+      let agree = eq-eqb (length c) (13 * length ks) e ∙ sym (eq-eqb (length d) (13 * length js) f) in
+      ap₂ (λ (n : ℕ) (b : Bool). leb 1 n && leb n 8 && b) as-many agree
+
+  draws-permutation : draws (loads_of c ks) ≡ draws (loads_of d js)
+  draws-permutation =
+      let ls = loads_of c ks in
+      let ms = loads_of d js in
+      ext_get_or 0 (draws ls) (draws ms) (draws-length ks c e ∙ ap columns_of as-many ∙ sym (draws-length js d f))
+      (λ i h. draws-column ls i ∙ sym (sum_by-IsPermutation (λ l. get_or (draw_of l) i 0) ls ms s) ∙ sym (draws-column ms i))
 
 -- the call by what its tests find, v being all draws
 abbrev by_tests : Plant → Bool → Bool → Bool → List ℕ → Result Plant Refusal
@@ -193,7 +190,7 @@ unfolding blend
 order-kept p c ks d js e f s =
     let ls = loads_of c ks in
     let ms = loads_of d js in
-    let b = e ∙ sym f in
+    let b = are-loads-permutation c ks d js e f s in
     let k = all-permutation (λ (l : Load). thousandths l.1) ls ms s in
     let w = all-permutation (λ (l : Load). within asm1_ceilings l.0) ls ms s in
     let v = draws-permutation c ks d js e f s in

@@ -1,15 +1,16 @@
 -- `blends::call::blend` meets its contract. Assumes nothing.
 use mathlib.Core.Path.{refl, sym, ◌∙◌}
-use Rattle.interface.proofs.Laws.Whole.{err-is}
+use Rattle.plant.proofs.Laws.Decision.{stop-all}
 use Rattle.blends.specs.Blend.{blend, loads_left}
 use Rattle.blends.proofs.Laws.Blend.{decide-err, decide-ok, tests-passed}
 use Rattle.blends.proofs.Laws.Draws.{blend-sent, blend-kept}
 use Rattle.blends.proofs.call.blend.Goals as goal
 
 pub returns-in_err-sludge-clause-outcome : goal.returns-in_err-sludge-clause-outcome
+unfolding blend
 returns-in_err-sludge-clause-outcome c =
     let sent = decide-err _ _ (sym c.blended.ensures ∙ c.in_err-sludge.was) in
-    err-is c.from_residual.result c.from_residual.ensures.1 refl ∙ sym (blend-sent c.args.plant c.args.loads.now c.args.ks.now sent)
+    stop-all _ _ (sym sent) c.from_residual.ensures.1
 
 pub returns-in_err-sludge-clause-loads : goal.returns-in_err-sludge-clause-loads
 returns-in_err-sludge-clause-loads c =
