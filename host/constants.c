@@ -1,9 +1,10 @@
 /* The header's constants held against the library: the places of the columns by the
  * names that a line gives them, the refusals by calls that get them, the lengths of the
- * buffers, the most loads of a blend, the kinds of a sheet and the version. host/run
- * compiles it as C and as C++, so that a host in C++ is linked too. It prints what the
- * library does not bear out. The places of tanks and figures, and the house set, are held
- * by the examples. JILGHVANI_LINE is not held: no line near it is a form. */
+ * buffers, the most lines whose answers are counted, the most loads of a blend, the kinds
+ * of a sheet and the version. host/run compiles it as C and as C++, so that a host in C++
+ * is linked too. It prints what the library does not bear out. The places of tanks and
+ * figures, and the house set, are held by the examples. JILGHVANI_LINE is not held: no
+ * line near it is a form. */
 #include "jilghvani.h"
 
 #include <stdio.h>
@@ -113,6 +114,20 @@ static uint64_t blended(int number)
     return jilghvani_blend(record, loads, (size_t)number * JILGHVANI_ASM1, ks, (size_t)number);
 }
 
+/* How many of so many empty lines, at most one more than count, do not count; the bytes
+ * that are told stand in *bytes. */
+static uint64_t not_counted(size_t number, uint64_t *bytes)
+{
+    static uint8_t newlines[JILGHVANI_COUNTED_LINES + 1];
+    uint64_t record[JILGHVANI_RECORD], told[2];
+
+    jilghvani_fresh(record);
+    memset(newlines, '\n', sizeof newlines);
+    jilghvani_answer_bytes(record, number > 0 ? newlines : NULL, number, told);
+    *bytes = told[0];
+    return told[1];
+}
+
 /* The refusals, each by a call that gets it. 6 has none, and 12 is told by a count. */
 static void refusals(void)
 {
@@ -149,11 +164,11 @@ static void refusals(void)
     ask(strstr(jilghvani_refusal_text(12), "512") != NULL, "BUFFER_SHORT");
 }
 
-/* The shortest buffers, the most loads of a blend, the kinds of a sheet's entries, and the
- * version. */
+/* The shortest buffers, the most lines whose answers are counted, the most loads of a
+ * blend, the kinds of a sheet's entries, and the version. */
 static void others(void)
 {
-    uint64_t record[JILGHVANI_RECORD], told[4];
+    uint64_t record[JILGHVANI_RECORD], told[4], held, all, bytes;
     uint8_t buf[2048];
     char version[32];
 
@@ -162,6 +177,11 @@ static void others(void)
             && jilghvani_held(record, buf, JILGHVANI_BUFFER - 1) == 0, "BUFFER");
     ask(jilghvani_write_feed(1, 0, buf, JILGHVANI_LINE_BUFFER) > 0
             && jilghvani_write_feed(1, 0, buf, JILGHVANI_LINE_BUFFER - 1) == 0, "LINE_BUFFER");
+    ask(not_counted(0, &held) == 0 && held == strlen("(held cod 0 tkn 0 oxygen 0 nitrate 0)\n")
+            && not_counted(JILGHVANI_COUNTED_LINES, &all) == 0
+            && all == held + JILGHVANI_COUNTED_LINES * strlen("(no 11)\n")
+            && not_counted(JILGHVANI_COUNTED_LINES + 1, &bytes) == 1 && bytes == all,
+        "COUNTED_LINES");
     ask(blended(JILGHVANI_MOST_LOADS) == JILGHVANI_ACCEPTED
             && blended(JILGHVANI_MOST_LOADS + 1) == JILGHVANI_NO_BLEND, "MOST_LOADS");
     ask(sheet(JILGHVANI_MEASURED, 1.0f, told) == 0 && told[0] == 0 && told[3] == 0, "MEASURED");

@@ -6,11 +6,11 @@
  *     plant record,
  *   - the house set of figures,
  *   - the refusals and their texts,
- *   - the functions: the two on text, the six that write a call as a line, the
- *     calls by numbers, the one for a laboratory sheet, the one for hauled loads,
- *     the two conversions by themselves, and the two for a solver's proposal.
- *     Above each stands who owns what, what is read and written, and what a
- *     refusal leaves.
+ *   - the functions: the two on text, the one that tells how long answers will be,
+ *     the six that write a call as a line, the calls by numbers, the one for a
+ *     laboratory sheet, the one for hauled loads, the two conversions by themselves,
+ *     and the two for a solver's proposal. Above each stands who owns what, what is
+ *     read and written, and what a refusal leaves.
  *
  * Memory. A record is an array of 61 uint64_t that the caller owns, and so are
  * vectors, figures, told numbers, loads and their ks, lines and buffers. There is no
@@ -101,7 +101,7 @@
  * made by jilghvani_fresh or jilghvani_make. JILGHVANI_COLUMNS, which was a
  * record's length, is gone, so that none is 52 long by it. While the version's first
  * number is 0, the shared library's soname has the second one too, as
- * libjilghvani.so.0.15, so that the loader does not start a host with a library that
+ * libjilghvani.so.0.16, so that the loader does not start a host with a library that
  * it was not linked for. The archive has no such guard.
  */
 #ifndef JILGHVANI_H
@@ -115,9 +115,9 @@ extern "C" {
 #endif
 
 /* The version of this header, and its three numbers. */
-#define JILGHVANI_VERSION "0.15.0"
+#define JILGHVANI_VERSION "0.16.0"
 #define JILGHVANI_VERSION_MAJOR 0
-#define JILGHVANI_VERSION_MINOR 15
+#define JILGHVANI_VERSION_MINOR 16
 #define JILGHVANI_VERSION_PATCH 0
 
 /* Sizes, and the places of columns and figures: record[JILGHVANI_DIGESTER_AT +
@@ -139,6 +139,7 @@ enum {
                                * than 739 bytes, so that a longer line gets refusal
                                * 11, or 12 before it where the buffer is short */
     JILGHVANI_MOST_LOADS = 8, /* the most hauled loads that one blend takes */
+    JILGHVANI_COUNTED_LINES = 1000, /* the most lines whose answers are counted */
 
     /* the kinds of a sheet's entries */
     JILGHVANI_MEASURED = 0,    /* a measured value */
@@ -304,6 +305,37 @@ size_t jilghvani_line(uint64_t record[JILGHVANI_RECORD],
  * refusal 12, with the buffer as it was. Refusals: 12, 15, 1. */
 size_t jilghvani_held(const uint64_t record[JILGHVANI_RECORD],
                       uint8_t *buf, size_t buf_len);
+
+/* ---- How long answers will be ---- */
+
+/* Tells how many bytes sludgeline would print for a list of lines from a record:
+ * the answer to each line, then the held line, each with its newline. No answer is
+ * written and the record stays as it is, so that a host can reserve memory ahead of a
+ * session. jilghvani_line and jilghvani_held, called for the same lines on the same
+ * record, write the same answers without the newlines; the lines are the host's to
+ * cut then, and each answer needs a buffer of 512 bytes.
+ *
+ * The lines are cut as sludgeline cuts its input. Each ends with a newline, which
+ * the last one may lack; nothing behind a final newline is a line. An empty line is
+ * one, and so is a line of more than 1,024 bytes, however long it is: both get
+ * "(no 11)". A refused line counts with its "(no N)". A preview counts with its
+ * answer, and changes nothing for the lines behind it.
+ *
+ * At most the first 1,000 lines count (JILGHVANI_COUNTED_LINES). Of later ones it is
+ * told how many there are and no more: the bytes are those for the counted lines
+ * alone, and the held line among them is that of the record after these.
+ *
+ * record    the caller's 61 numbers, any numbers; read and never written.
+ * lines     len bytes that the caller owns, the lines one behind another; read and
+ *           never written.
+ * told      two numbers that the caller owns, all written: the bytes, and how many
+ *           lines did not count.
+ *
+ * Told must not overlap record or lines. It has no refusal: of a record that is
+ * refused each form gets "(no 15)" or "(no 1)", and so does the held line, and these
+ * are counted. */
+void jilghvani_answer_bytes(const uint64_t record[JILGHVANI_RECORD],
+                            const uint8_t *lines, size_t len, uint64_t told[2]);
 
 /* ---- Calls as lines ---- */
 

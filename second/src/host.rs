@@ -20,6 +20,8 @@ unsafe extern "C" {
     ) -> usize;
     /// Writes the held line; `held` below calls it.
     fn jilghvani_held(record: &Record, buf: *mut u8, buf_len: usize) -> usize;
+    /// Tells how long answers will be; `answer_bytes` below calls it.
+    fn jilghvani_answer_bytes(record: &Record, lines: *const u8, len: usize, told: &mut [u64; 2]);
     /// Writes the line of a receive; `write_receive` below calls it.
     fn jilghvani_write_receive(v: &Asm1, preview: u64, buf: *mut u8, buf_len: usize) -> usize;
     /// Writes the line of a feed; `write_feed` below calls it.
@@ -102,6 +104,12 @@ pub fn line(record: &mut Record, line: &[u8], buffer: &mut [u8]) -> usize {
 pub fn held(record: &Record, buffer: &mut [u8]) -> usize {
     // The pointer goes with its own length.
     unsafe { jilghvani_held(record, buffer.as_mut_ptr(), buffer.len()) }
+}
+
+/// The same as `numbers::answer_bytes`.
+pub fn answer_bytes(record: &Record, lines: &[u8], told: &mut [u64; 2]) {
+    // The pointer goes with its own length.
+    unsafe { jilghvani_answer_bytes(record, lines.as_ptr(), lines.len(), told) }
 }
 
 /// Writes the line of a receive, or of its preview; gives the count of bytes written.

@@ -1,10 +1,11 @@
 //! A second implementation of the ASM1 and ADM1 link, written from document 01, from
 //! requests E1 (recycle), E2 (fields in column order), E3 (previews), E5 (a writer for call
 //! lines), E6 (laboratory sheets), E7 (nine figures of one's own), E9 (nitrate by
-//! stoichiometry) and E10 (hauled loads) of document 02 and, for what they have no line for
-//! (conversions by themselves and the figures that they take, `close`, `gap`, the number that
-//! asks for a preview to be written, the kinds of a sheet's entries, the program's
-//! `--figures`), from a description in words; never from the code of the verified link.
+//! stoichiometry), E10 (hauled loads) and E11 (how long the answers will be) of document 02
+//! and, for what they have no line for (conversions by themselves and the figures that they
+//! take, `close`, `gap`, the number that asks for a preview to be written, the kinds of a
+//! sheet's entries, the program's `--figures`), from a description in words; never from the
+//! code of the verified link.
 //!
 //! The link:
 //! - `tables`: column names, ceilings, COD of a vector;
@@ -19,13 +20,14 @@
 //! - `lines`: a line read as a call or its preview, an answer written into a lent buffer;
 //! - `writing`: a call or its preview written as its line into a lent buffer;
 //! - `session`: input cut into lines and answered in fixed memory;
+//! - `lengths`: how long the answers to a list of lines will be, without writing any;
 //! - `making`: the program's words, and the record that they ask for.
 //!
 //! For the tools in `src/bin` and for the tests:
 //! - `random`: the generator of their numbers;
 //! - `balances`: the four balances over a list, from its calls and answers;
 //! - `trials`: figures, records, calls, lines, vectors and proposals to try, fair, damaged and
-//!   out of order, previews, calls to be written, sheets, and blends;
+//!   out of order, previews, calls to be written, sheets, blends, and lists of lines;
 //! - `outside`: trials of the program's input, output and arguments;
 //! - `host`: the functions of the C library, with the feature `library` alone.
 
@@ -36,6 +38,7 @@ pub mod convert;
 pub mod figures;
 #[cfg(feature = "library")]
 pub mod host;
+pub mod lengths;
 pub mod lines;
 pub mod making;
 pub mod numbers;

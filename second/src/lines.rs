@@ -221,17 +221,21 @@ fn write_refusal(out: &mut Writer, refusal: Refusal) {
     out.text(b")");
 }
 
+/// What one line on the record leads to, which its answer tells.
+pub(crate) fn outcome(plant: &mut Plant, line: &[u8]) -> Result<Told, Refusal> {
+    match read(line) {
+        Some(Asked::Call(call)) => plant.call(&call),
+        Some(Asked::Preview(call)) => plant.preview(&call),
+        None => Err(Refusal::NoForm),
+    }
+}
+
 /// Answers one line on the record: the filled part of the buffer, empty under refusal 12.
 pub fn answer<'b>(plant: &mut Plant, line: &[u8], buffer: &'b mut [u8]) -> &'b [u8] {
     if buffer.len() < SHORTEST_BUFFER {
         return &[];
     }
-    let answer = match read(line) {
-        Some(Asked::Call(call)) => plant.call(&call),
-        Some(Asked::Preview(call)) => plant.preview(&call),
-        None => Err(Refusal::NoForm),
-    };
-    write(&answer, buffer)
+    write(&outcome(plant, line), buffer)
 }
 
 /// Writes the held line of the record, or its refusal; empty under refusal 12.

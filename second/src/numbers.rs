@@ -7,6 +7,7 @@
 
 use crate::convert;
 use crate::figures::Figures;
+use crate::lengths;
 use crate::plant::{Plant, Record, Refusal};
 use crate::sheets::Sheet;
 use crate::tables::{Asm1, Digester};
@@ -92,6 +93,12 @@ pub fn recycle(record: &mut Record, k: u64) -> u64 {
 /// Tells COD, TKN, oxygen and nitrate of the three tanks.
 pub fn totals(record: &Record, told: &mut [u64; 4]) -> u64 {
     tell(told, Plant::from_columns(record).held().map(|held| held.numbers()))
+}
+
+/// Tells how many bytes the answers to these lines have, the held line among them, and how many
+/// lines did not count. It is never refused.
+pub fn answer_bytes(record: &Record, lines: &[u8], told: &mut [u64; 2]) {
+    *told = lengths::answer_bytes(&Plant::from_columns(record), lines).numbers();
 }
 
 /// Converts v to d by itself, by these figures; tells burnt, oxygen, nitrate and warn.

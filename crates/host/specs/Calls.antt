@@ -2,6 +2,7 @@
 --
 --   LineCalled                       the call on a line: the columns behind it, the answer's bytes and the whole buffer
 --   HeldCalled                       the held line: its bytes and the whole buffer
+--   two_of                           how long the answers will be, and how many lines are not counted
 --   Composed                         a call as a line: its bytes and the whole buffer
 --   Called                           a call of the record by numbers: the columns behind it and the refusal's number
 --   CalledOut                        the same, with what the call tells or hands out
@@ -41,6 +42,7 @@ use Rattle.writing.specs.Buffer.{Answered}
 use Rattle.writing.specs.Answer.{held_text, fitting}
 use Rattle.composing.specs.Written.{written_text}
 use Rattle.lines.specs.Asking.{line_outcome, line_text}
+use Rattle.lengths.specs.declared.input.AnswerBytes.{AnswerBytes}
 use Rattle.host.specs.Record.{plant_at, columns_at}
 
 -- ---- by text
@@ -51,6 +53,10 @@ pub record LineCalled (cs s d : List ℕ) (r : ℕ) (es e : List ℕ) : Type 0 w
 
 pub record HeldCalled (cs d : List ℕ) (r : ℕ) (e : List ℕ) : Type 0 where
   pub text : Answered d (fitting (length d) (held_text (held_of (plant_at cs)))) r e
+
+-- the bytes, then the lines that are not counted
+abbrev pub two_of : AnswerBytes → List ℕ
+two_of a = a.bytes ∷ a.uncounted ∷ []
 
 -- the line of the request q, or of its preview where n is not 0
 pub record Composed (q : Request) (n : ℕ) (d : List ℕ) (r : ℕ) (e : List ℕ) : Type 0 where

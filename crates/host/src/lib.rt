@@ -1,7 +1,7 @@
 // The link for a host in C: functions on numbers and byte slices, whose record is 61 numbers lent as a fixed array. ../../host/jilghvani.h
 // declares them for C. Nothing is kept between calls. Refusals go out as numbers and filled parts as counts: C has no Result and no slice.
 //
-//   text         the call on a line, and the held line
+//   text         the call on a line, the held line, and how long the answers will be
 //   composed     calls by numbers as lines
 //   numbers      the record's calls by numbers, and what is in the tanks
 //   laboratory   a laboratory sheet by kinds and values
@@ -39,4 +39,4 @@ pub use numbers::{
     jilghvani_release, jilghvani_return, jilghvani_settle, jilghvani_totals,
 };
 pub use proposals::{jilghvani_close, jilghvani_gap};
-pub use text::{jilghvani_held, jilghvani_line};
+pub use text::{jilghvani_answer_bytes, jilghvani_held, jilghvani_line};

@@ -33,7 +33,7 @@ pub fn answer_line(plant: Plant, line: &[u8], buf: &mut [u8]) -> LineOutcome
 }
 
 // What a line that has been read gives on the record.
-fn form_outcome(plant: Plant, asked: Option<Asked>) -> Outcome
+pub fn form_outcome(plant: Plant, asked: Option<Asked>) -> Outcome
     ensures { result ≡ form_outcome plant asked }
 {
     match asked {

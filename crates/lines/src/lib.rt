@@ -9,6 +9,6 @@ mod asking;
 mod blocks;
 mod claims;
 
-pub use asking::{HeldOutcome, LineOutcome, answer_line, held_line};
+pub use asking::{HeldOutcome, LineOutcome, answer_line, form_outcome, held_line};
 pub use blocks::{Place, answer_block, end_session, step};
 pub use claims::laws_hold;

@@ -10,6 +10,7 @@
 //! - `writing`: calls to be written as lines, and the buffers lent for them;
 //! - `sheets`: laboratory sheets, and sludge tanks that they just fit or pass;
 //! - `blends`: hauled loads with their ks, and sludge tanks that they just fit or pass;
+//! - `lists`: lists of lines in one slice, with the records that they begin from;
 //! - `table`: the sheets of `exact_sheets.py` with their answers;
 //! - here: a call written as a line, and the choice of the next record, line, call, vector
 //!   and blend.
@@ -19,6 +20,7 @@ pub mod blends;
 pub mod damage;
 pub mod edges;
 pub mod figures;
+pub mod lists;
 pub mod order;
 pub mod previews;
 pub mod proposals;

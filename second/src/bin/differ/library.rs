@@ -1,10 +1,11 @@
 //! Lists of calls through the C library: lines and held lines here, with everything
 //! around record, line and buffer guarded; calls by numbers in `numbers`, laboratory
-//! sheets in `sheets`, blends in `blends`, and calls written as lines in `writing`.
+//! sheets in `sheets`, blends in `blends`, calls written as lines in `writing`, and lengths
+//! of answers in `lengths`.
 
 use crate::guarded::{byte_pattern, number_pattern, Guarded};
 use crate::tally::{kind_of, refusal_of, Tally};
-use crate::{blends, numbers, sheets, shown, writing, Difference, Options};
+use crate::{blends, lengths, numbers, sheets, shown, writing, Difference, Options};
 use second::balances::Balances;
 use second::plant::Plant;
 use second::random::Random;
@@ -145,12 +146,13 @@ fn one_list(random: Random, tally: &mut Tally) -> Result<(), Difference> {
             list.check()?;
             list = List::anew(&mut trial, &list.plant, tally)?;
         }
-        match trial.random.below(26) {
+        match trial.random.below(27) {
             0 => held(&mut trial.random, &list.plant, tally)?,
             1..=11 => numbers::one_call(&mut trial, &mut list, tally)?,
             12 | 13 => written(&mut trial.random, &list.plant, tally)?,
             14 | 15 => sheets::one_call(&mut trial, &mut list, tally)?,
             16 | 17 => blends::one_call(&mut trial, &mut list, tally)?,
+            18 => lengths::one_call(&mut trial.random, tally)?,
             _ => {
                 let next = trial.line(&list.plant);
                 line(&mut trial.random, &mut list, &next, tally)?;

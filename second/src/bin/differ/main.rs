@@ -11,12 +11,14 @@
 //! - `sheets`: the laboratory sheets in them, and those of a table;
 //! - `blends`: the blends of hauled loads in them;
 //! - `writing`: the calls that are written as lines in them;
+//! - `lengths`: how long the answers to a session, and to lists of lines, will be;
 //! - `guarded`: what is lent to the library, between guards;
 //! - `tally`: how many answers of each kind were compared;
 //! - here: the options and the report.
 
 mod blends;
 mod guarded;
+mod lengths;
 mod library;
 mod numbers;
 mod program;

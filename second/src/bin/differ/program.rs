@@ -1,12 +1,13 @@
 //! Sessions through the program `sludgeline`: whole, in odd parts, from a file, in step; most of
-//! them of the house set, some with other figures behind `--figures`. The sets that it refuses are
-//! in `wishes`.
+//! them of the house set, some with other figures behind `--figures`. What it prints is measured
+//! against what the library tells before, in `lengths`. The sets that it refuses are in `wishes`.
 
 use crate::tally::{kind_of, refusal_of, Tally};
-use crate::{shown, wishes, Difference, Options};
+use crate::{lengths, shown, wishes, Difference, Options};
 use second::balances::{numbers_in, Balances};
 use second::plant::Plant;
 use second::random::Random;
+use second::trials::lists::Lines;
 use second::trials::{figures, Trial};
 use second::{lines, session};
 use std::fs::File;
@@ -104,6 +105,20 @@ impl Session {
     /// Everything that is to be printed.
     fn printed(&self) -> Vec<u8> {
         self.answers.iter().flat_map(|answer| answer.iter().copied().chain([b'\n'])).collect()
+    }
+
+    /// The session of its first lines alone, each with a newline.
+    fn first(&self, number: usize) -> Session {
+        let (bytes, lines, answers) = (Vec::new(), Vec::new(), Vec::new());
+        let (words, start, mut plant) = (self.words.clone(), self.start, self.start);
+        let mut first = Session { words, start, bytes, lines, answers };
+        for line in &self.lines[..number] {
+            first.bytes.extend(line);
+            first.bytes.push(b'\n');
+            first.answer(&mut plant, line);
+        }
+        first.hold(&plant);
+        first
     }
 
     /// How many bytes of answers are owed once so many bytes have been handed over.
@@ -296,8 +311,9 @@ fn from_file(program: &Path, session: &Session) -> Result<Vec<u8>, Difference> {
     Running::start(program, session, Some(file))?.end()
 }
 
-/// Runs one session through the program, in one of the ways to hand it over.
-fn one_session(program: &Path, session: &Session, random: &mut Random) -> Result<(), Difference> {
+/// Runs one session through the program, in one of the ways to hand it over; gives the number of
+/// bytes that it printed.
+fn one_session(program: &Path, session: &Session, random: &mut Random) -> Result<u64, Difference> {
     let short = session.bytes.len() < 20_000;
     let printed = match random.below(12) {
         0..=2 => from_file(program, session),
@@ -306,8 +322,27 @@ fn one_session(program: &Path, session: &Session, random: &mut Random) -> Result
         7 => through_pipe(program, session, random, 2000),
         8 => through_pipe(program, session, random, 70_000),
         _ => through_pipe(program, session, random, u64::MAX >> 1),
+    }?;
+    session.compare("sludgeline", &printed)?;
+    Ok(printed.len() as u64)
+}
+
+/// Holds what the library tells of a session against what the program printed. Where more lines
+/// than count stand in it, the program is run once more, on those that count.
+fn check_length(
+    program: &Path,
+    session: &Session,
+    printed: u64,
+    random: &mut Random,
+    tally: &mut Tally,
+) -> Result<(), Difference> {
+    let uncounted = session.lines.len().saturating_sub(lengths::COUNTED);
+    let counted = match uncounted {
+        0 => printed,
+        _ => one_session(program, &session.first(lengths::COUNTED), random)?,
     };
-    session.compare("sludgeline", &printed?)
+    let lines = Lines { start: session.start, bytes: session.bytes.clone() };
+    lengths::of_session(&lines, [counted, uncounted as u64], random.any(), tally)
 }
 
 /// Runs all sessions through the program.
@@ -322,7 +357,10 @@ pub fn run(options: &Options, tally: &mut Tally) -> Result<(), Difference> {
         let session = make_session(random.clone());
         let result = check_own(&session, &mut random)
             .and_then(|()| session.check_balances())
-            .and_then(|()| one_session(&options.program, &session, &mut random));
+            .and_then(|()| one_session(&options.program, &session, &mut random))
+            .and_then(|printed| {
+                check_length(&options.program, &session, printed, &mut random, tally)
+            });
         if let Err(difference) = result {
             let path = concat!(env!("CARGO_MANIFEST_DIR"), "/target/differ.session");
             let _ = std::fs::write(path, &session.bytes);

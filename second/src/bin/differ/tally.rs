@@ -11,9 +11,11 @@ use std::ops::RangeInclusive;
 /// line; the sets behind `--figures`; the functions that are called by numbers; sheets that are
 /// made for their record and those of the table stand below the others; so do blends of one load
 /// and of eight, those whose lengths are turned away, those that are made for their record, and
-/// those in another order; a gap that is told stands by where it is; and the functions that write
-/// a call's line, below each the same for its preview.
-const KINDS: [&str; 57] = [
+/// those in another order; a gap that is told stands by where it is; the functions that write a
+/// call's line, below each the same for its preview; and lengths of answers by the refusal of the
+/// record that a list begins from, below the lists whose lines all count the longer ones and the
+/// sessions of the program.
+const KINDS: [&str; 61] = [
     "receive",
     "feed",
     "settle",
@@ -71,6 +73,10 @@ const KINDS: [&str; 57] = [
     "  release's preview",
     "jilghvani_write_recycle",
     "  recycle's preview",
+    "jilghvani_answer_bytes",
+    "  of a longer list",
+    "  of a session",
+    "  of a longer session",
 ];
 
 /// Which kind a line with this call is, and which one its preview.

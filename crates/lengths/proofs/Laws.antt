@@ -1,0 +1,4 @@
+-- Laws of lengths, by topic.
+pub mod Digits
+pub mod Answer
+pub mod Cut
