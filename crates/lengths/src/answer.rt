@@ -66,11 +66,8 @@ fn digits(n: u64) -> usize
     ensures exact { result ≡ length (decimal n) }
     ensures at_most { result ≤ 20 }
 {
-    let mut k = 1;
-    let mut rest = n / 10;
-    while rest > 0 {
-        rest /= 10;
-        k += 1;
+    match n.checked_ilog10() {
+        Some(k) => k as usize + 1,
+        None => 1,
     }
-    k
 }
