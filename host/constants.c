@@ -79,6 +79,16 @@ static uint64_t received(uint64_t held, uint64_t count)
     return jilghvani_receive(record, v);
 }
 
+/* The refusal of an accept of nitrite alone on a fresh record. */
+static uint64_t accepted(uint64_t nitrite)
+{
+    uint64_t record[JILGHVANI_RECORD], told[1];
+    const uint64_t v[JILGHVANI_ASM1] = {0};
+
+    jilghvani_fresh(record);
+    return jilghvani_accept(record, v, nitrite, told);
+}
+
 /* The refusal of a settle of one column on a fresh record. */
 static uint64_t settled(uint64_t gas, int place)
 {
@@ -140,7 +150,9 @@ static void refusals(void)
     ask(jilghvani_recycle(record, 1) == JILGHVANI_ACCEPTED, "ACCEPTED");
     ask(jilghvani_recycle(record, 0) == JILGHVANI_K_OUT_OF_RANGE, "K_OUT_OF_RANGE");
     ask(received(1000000000001, 0) == JILGHVANI_RECORD_ABOVE_CEILING, "RECORD_ABOVE_CEILING");
-    ask(received(0, 1000000000001) == JILGHVANI_COLUMN_ABOVE_CEILING, "COLUMN_ABOVE_CEILING");
+    ask(received(0, 1000000000001) == JILGHVANI_COLUMN_ABOVE_CEILING
+            && accepted(10000000000000000) == JILGHVANI_ACCEPTED
+            && accepted(10000000000000001) == JILGHVANI_COLUMN_ABOVE_CEILING, "COLUMN_ABOVE_CEILING");
     ask(received(1000000000000, 1) == JILGHVANI_DESTINATION_ABOVE_CEILING, "DESTINATION_ABOVE_CEILING");
     v[JILGHVANI_ASM1_SI] = 1;
     ask(jilghvani_asm_to_adm(jilghvani_house, v, d, told) == JILGHVANI_FEED_NITROGEN_SHORT,

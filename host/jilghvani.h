@@ -7,7 +7,7 @@
  *   - the house set of figures,
  *   - the refusals and their texts,
  *   - the functions: the two on text, the one that tells how long answers will be,
- *     the six that write a call as a line, the calls by numbers, the one for a
+ *     the eight that write a call as a line, the calls by numbers, the one for a
  *     laboratory sheet, the one for hauled loads, the two conversions by themselves,
  *     and the two for a solver's proposal. Above each stands who owns what, what is
  *     read and written, and what a refusal leaves.
@@ -56,8 +56,10 @@
  *    sin of jilghvani_asm_to_adm           0.7 * 10^17
  *    the ticks of jilghvani_sheet          0.4 * 10^17
  *
- * All else in ticks is at most 0.3 * 10^17, and all in mg or mmol at most
- * 3.6 * 10^13 (the COD of jilghvani_totals).
+ * All else in ticks is at most 0.3 * 10^17, as the nitrate of jilghvani_totals; the
+ * nitrite that jilghvani_accept takes is at most 0.1 * 10^17, and the N2 that it
+ * tells 0.04 * 10^17. All in mg or mmol is at most 3.6 * 10^13 (the COD of
+ * jilghvani_totals).
  *
  * The numbers of a record stand in this order (mg: COD and oxygen in mg; ticks:
  * 0.0001 mg N; mmol: millimoles):
@@ -84,7 +86,8 @@
  *     lipid, which share what composites leave as fch to fli
  *
  * Ceilings for one column: 10^12 for mg and mmol, 10^16 for ticks. A record with a
- * column above its ceiling is refused (1).
+ * column above its ceiling is refused (1). Nitrite has no column; its ceiling is
+ * 10^16 too.
  *
  * Figures. A set of figures is permitted where each is 0 to 10000, nxc and naa are
  * at least 1, and fch + fli is at least 1. They are chosen when the record is made
@@ -101,7 +104,7 @@
  * made by jilghvani_fresh or jilghvani_make. JILGHVANI_COLUMNS, which was a
  * record's length, is gone, so that none is 52 long by it. While the version's first
  * number is 0, the shared library's soname has the second one too, as
- * libjilghvani.so.0.16, so that the loader does not start a host with a library that
+ * libjilghvani.so.0.17, so that the loader does not start a host with a library that
  * it was not linked for. The archive has no such guard.
  */
 #ifndef JILGHVANI_H
@@ -115,9 +118,9 @@ extern "C" {
 #endif
 
 /* The version of this header, and its three numbers. */
-#define JILGHVANI_VERSION "0.16.0"
+#define JILGHVANI_VERSION "0.17.0"
 #define JILGHVANI_VERSION_MAJOR 0
-#define JILGHVANI_VERSION_MINOR 16
+#define JILGHVANI_VERSION_MINOR 17
 #define JILGHVANI_VERSION_PATCH 0
 
 /* Sizes, and the places of columns and figures: record[JILGHVANI_DIGESTER_AT +
@@ -139,7 +142,8 @@ enum {
                                * than 739 bytes, so that a longer line gets refusal
                                * 11, or 12 before it where the buffer is short */
     JILGHVANI_MOST_LOADS = 8, /* the most hauled loads that one blend takes */
-    JILGHVANI_COUNTED_LINES = 1000, /* the most lines whose answers are counted */
+    JILGHVANI_COUNTED_LINES = 1000, /* the most lines of a list that
+                               * jilghvani_answer_bytes counts */
 
     /* the kinds of a sheet's entries */
     JILGHVANI_MEASURED = 0,    /* a measured value */
@@ -240,7 +244,7 @@ static inline const char *jilghvani_refusal_text(uint64_t refusal)
     case JILGHVANI_K_OUT_OF_RANGE:
         return "k is not 1 to 1000";
     case JILGHVANI_COLUMN_ABOVE_CEILING:
-        return "a column handed over, or the sin that closes, is above its ceiling";
+        return "a column or nitrite handed over, or the sin that closes, is above its ceiling";
     case JILGHVANI_FEED_NITROGEN_SHORT:
         return "the sludge has too little nitrogen for its inerts";
     case JILGHVANI_RETURN_NITROGEN_SHORT:
@@ -341,14 +345,14 @@ void jilghvani_answer_bytes(const uint64_t record[JILGHVANI_RECORD],
 
 /* Write the line that jilghvani_line reads, or sludgeline, and a newline: of each
  * call one function, which takes what the call takes. The columns of a vector
- * stand in order, and a column that is 0 is left away; the number of the call, k
- * or gas, is always written. So jilghvani_write_receive of ss 10 and xs 30 writes
+ * stand in order, and a column that is 0 is left away; the number of the call, k,
+ * gas or n, is always written. So jilghvani_write_receive of ss 10 and xs 30 writes
  * "(receive (ss 10) (xs 30))" and a newline. Reading the line, without its
  * newline, gives the call and its vector again, and no other line that names no
  * column with 0 does. No call is made, and any numbers are written, those that
  * the call would refuse too.
  *
- * k, gas    any number.
+ * k, gas, n any number.
  * v, d      13 or 26 columns that the caller owns; read and never written.
  * preview   0 for the call's own line; any other number for its preview, as
  *           "(preview (feed 1000))".
@@ -371,6 +375,10 @@ size_t jilghvani_write_release(uint64_t k,
                                uint64_t preview, uint8_t *buf, size_t buf_len);
 size_t jilghvani_write_recycle(uint64_t k,
                                uint64_t preview, uint8_t *buf, size_t buf_len);
+size_t jilghvani_write_draw(uint64_t k,
+                            uint64_t preview, uint8_t *buf, size_t buf_len);
+size_t jilghvani_write_accept(const uint64_t v[JILGHVANI_ASM1], uint64_t n,
+                              uint64_t preview, uint8_t *buf, size_t buf_len);
 
 /* ---- The calls by numbers ---- */
 
@@ -472,6 +480,41 @@ uint64_t jilghvani_release(uint64_t record[JILGHVANI_RECORD], uint64_t k,
  *
  * Gives 0 or the refusal: 15, 1, 2, 10. */
 uint64_t jilghvani_recycle(uint64_t record[JILGHVANI_RECORD], uint64_t k);
+
+/* Draw k: draws k thousandths of the reject tank and hands them to the host of the
+ * side-stream reactor. It does what jilghvani_release does, and in the balances of a
+ * list of calls what is drawn counts as released.
+ *
+ * record    the caller's 61 numbers, read and written; the reject tank is changed
+ *           where the call is accepted. A refused one leaves every number as it
+ *           was.
+ * k         the thousandths to draw, 1 to 1000.
+ * v         13 columns that the caller owns, all written: the ASM1 vector that is
+ *           handed out, zeros where the call is refused.
+ *
+ * Record and v must not overlap. Gives 0 or the refusal: 15, 1, 2. */
+uint64_t jilghvani_draw(uint64_t record[JILGHVANI_RECORD], uint64_t k,
+                        uint64_t v[JILGHVANI_ASM1]);
+
+/* Accept: adds what the host of the side-stream reactor hands back to the sludge
+ * tank: an ASM1 vector, and n ticks of nitrite, which ASM1 has no column for. Of n
+ * the floor of 3 * n / 5 joins sno, and the rest is told as N2. In the balances of a
+ * list of calls v counts as received, n as received nitrate, and the N2 as nitrate
+ * that has left. In the line n stands first, as "(accept 603 (xi 4) (snh 302))".
+ *
+ * record    the caller's 61 numbers, read and written; the sludge tank is changed
+ *           where the call is accepted. A refused one leaves every number as it
+ *           was.
+ * v         13 columns that the caller owns; read and never written.
+ * n         the nitrite, ticks, at most 10^16.
+ * told      one number that the caller owns, written: the N2, ticks, 0 where the
+ *           call is refused.
+ *
+ * Record, v and told must not overlap. Gives 0 or the refusal: 15; 1; 3 where a
+ * column of v or n is above its ceiling; 10, where sno counts with its share of n. */
+uint64_t jilghvani_accept(uint64_t record[JILGHVANI_RECORD],
+                          const uint64_t v[JILGHVANI_ASM1], uint64_t n,
+                          uint64_t told[1]);
 
 /* Totals: what the three tanks hold together, as in the held line.
  *

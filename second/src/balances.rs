@@ -4,7 +4,9 @@
 //!
 //! What the list received is in the tanks after it, or it has left them: released, burnt
 //! or reduced by feeds, stripped by returns, or gas of settles. A recycle moves water
-//! between two tanks and adds to neither side; a blend's draws are received; a refused call
+//! between two tanks and adds to neither side; a blend's draws are received. What is drawn
+//! for the side-stream reactor counts as released, and a vector that is accepted from it as
+//! received; its nitrite is received nitrate, and the N2 that is told has left. A refused call
 //! and a preview count for nothing.
 
 use crate::blends;
@@ -35,13 +37,13 @@ fn add(to: &mut Four, more: Four) {
     to.iter_mut().zip(more).for_each(|(count, more)| *count += more);
 }
 
-/// The numbers in an answer or a held line, in their order; no word there has a digit.
+/// The numbers in an answer or a held line, in their order: its words of digits alone, as n2 is
+/// none.
 pub fn numbers_in(answer: &[u8]) -> Vec<u64> {
     let text = String::from_utf8_lossy(answer);
-    let runs = text.split(|letter: char| !letter.is_ascii_digit());
-    runs.filter(|run| !run.is_empty())
-        .map(|run| run.parse().expect("a number of 64 bits"))
-        .collect()
+    let words = text.split(|letter: char| !letter.is_ascii_alphanumeric());
+    let is_number = |word: &&str| !word.is_empty() && word.bytes().all(|b| b.is_ascii_digit());
+    words.filter(is_number).map(|word| word.parse().expect("a number of 64 bits")).collect()
 }
 
 impl Balances {
@@ -61,11 +63,16 @@ impl Balances {
             }
             (Call::Settle(gas, _), []) => add(&mut self.left, [(*gas).into(), 0, 0, 0]),
             (Call::Return(_), &[stripped]) => add(&mut self.left, [stripped.into(), 0, 0, 0]),
-            (Call::Release(_), columns) => {
-                let v = columns.try_into().expect("a release hands thirteen columns out");
+            (Call::Release(_) | Call::Draw(_), columns) => {
+                let v = columns.try_into().expect("thirteen columns are handed out");
                 add(&mut self.left, measures(&self.figures, v));
             }
             (Call::Recycle(_), []) => {}
+            (Call::Accept(v, nitrite), &[n2]) => {
+                add(&mut self.received, measures(&self.figures, v));
+                add(&mut self.received, [0, 0, 0, (*nitrite).into()]);
+                add(&mut self.left, [0, 0, 0, n2.into()]);
+            }
             _ => panic!("{call:?} does not tell {told:?}"),
         }
     }

@@ -40,6 +40,16 @@ unsafe extern "C" {
     fn jilghvani_write_release(k: u64, preview: u64, buf: *mut u8, buf_len: usize) -> usize;
     /// Writes the line of a recycle; `write_recycle` below calls it.
     fn jilghvani_write_recycle(k: u64, preview: u64, buf: *mut u8, buf_len: usize) -> usize;
+    /// Writes the line of a draw; `write_draw` below calls it.
+    fn jilghvani_write_draw(k: u64, preview: u64, buf: *mut u8, buf_len: usize) -> usize;
+    /// Writes the line of an accept; `write_accept` below calls it.
+    fn jilghvani_write_accept(
+        v: &Asm1,
+        n: u64,
+        preview: u64,
+        buf: *mut u8,
+        buf_len: usize,
+    ) -> usize;
     /// Blends hauled loads; `blend` below calls it.
     fn jilghvani_blend(
         record: &mut Record,
@@ -71,6 +81,11 @@ unsafe extern "C" {
     pub safe fn jilghvani_release(record: &mut Record, k: u64, v: &mut Asm1) -> u64;
     /// The same as `numbers::recycle`.
     pub safe fn jilghvani_recycle(record: &mut Record, k: u64) -> u64;
+    /// The same as `numbers::draw`.
+    pub safe fn jilghvani_draw(record: &mut Record, k: u64, v: &mut Asm1) -> u64;
+    /// The same as `numbers::accept`.
+    pub safe fn jilghvani_accept(record: &mut Record, v: &Asm1, n: u64, told: &mut [u64; 1])
+        -> u64;
     /// The same as `numbers::totals`.
     pub safe fn jilghvani_totals(record: &Record, told: &mut [u64; 4]) -> u64;
     /// The same as `numbers::asm_to_adm`.
@@ -146,6 +161,18 @@ pub fn write_release(k: u64, preview: u64, buffer: &mut [u8]) -> usize {
 pub fn write_recycle(k: u64, preview: u64, buffer: &mut [u8]) -> usize {
     // The pointer goes with its own length.
     unsafe { jilghvani_write_recycle(k, preview, buffer.as_mut_ptr(), buffer.len()) }
+}
+
+/// Writes the line of a draw, or of its preview; gives the count of bytes written.
+pub fn write_draw(k: u64, preview: u64, buffer: &mut [u8]) -> usize {
+    // The pointer goes with its own length.
+    unsafe { jilghvani_write_draw(k, preview, buffer.as_mut_ptr(), buffer.len()) }
+}
+
+/// Writes the line of an accept, or of its preview; gives the count of bytes written.
+pub fn write_accept(v: &Asm1, n: u64, preview: u64, buffer: &mut [u8]) -> usize {
+    // The pointer goes with its own length.
+    unsafe { jilghvani_write_accept(v, n, preview, buffer.as_mut_ptr(), buffer.len()) }
 }
 
 /// The same as `numbers::blend`.

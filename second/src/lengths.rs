@@ -6,6 +6,7 @@
 
 use crate::lines;
 use crate::plant::{Plant, Refusal, Told};
+use crate::tables::Asm1;
 
 /// How many lines count at most.
 pub const MOST_LINES: usize = 1000;
@@ -36,14 +37,18 @@ fn digits(number: u64) -> u64 {
     1 + number.checked_ilog10().map_or(0, u64::from)
 }
 
-/// The length of an answer with these words, in which no number stands, and these numbers.
+/// The length of an answer with these words, in which no number stands, and these numbers. The
+/// word n2 is none.
 fn length(words: &str, numbers: &[u64]) -> u64 {
     words.len() as u64 + numbers.iter().map(|&number| digits(number)).sum::<u64>()
 }
 
-/// The words of a release's answer.
-const RELEASED: &str = "(ok release (si ) (ss ) (xi ) (xs ) (xbh ) (xba ) (xp ) (so ) (sno ) \
-    (snh ) (snd ) (xnd ) (salk ))";
+/// The length of an answer that begins with these words and hands a vector out.
+fn of_handed_out(begin: &str, v: &Asm1) -> u64 {
+    let columns = " (si ) (ss ) (xi ) (xs ) (xbh ) (xba ) (xp ) (so ) (sno ) (snh ) (snd ) (xnd ) \
+        (salk ))";
+    length(begin, &[]) + length(columns, v)
+}
 
 /// The length of an answer, without its newline.
 fn of_answer(answer: &Result<Told, Refusal>) -> u64 {
@@ -52,8 +57,10 @@ fn of_answer(answer: &Result<Told, Refusal>) -> u64 {
         Ok(Told::Fed(told)) => length("(ok feed burnt  oxygen  nitrate  warn )", &told.numbers()),
         Ok(Told::Settled) => length("(ok settle)", &[]),
         Ok(Told::Returned(stripped)) => length("(ok return stripped )", &[*stripped]),
-        Ok(Told::Released(v)) => length(RELEASED, v),
+        Ok(Told::Released(v)) => of_handed_out("(ok release", v),
         Ok(Told::Recycled) => length("(ok recycle)", &[]),
+        Ok(Told::Drawn(v)) => of_handed_out("(ok draw", v),
+        Ok(Told::Accepted(n2)) => length("(ok accept n2 )", &[*n2]),
         Err(refusal) => of_refusal(*refusal),
     }
 }

@@ -1,18 +1,19 @@
 //! A second implementation of the ASM1 and ADM1 link, written from document 01, from
 //! requests E1 (recycle), E2 (fields in column order), E3 (previews), E5 (a writer for call
 //! lines), E6 (laboratory sheets), E7 (nine figures of one's own), E9 (nitrate by
-//! stoichiometry), E10 (hauled loads) and E11 (how long the answers will be) of document 02
-//! and, for what they have no line for (conversions by themselves and the figures that they
-//! take, `close`, `gap`, the number that asks for a preview to be written, the kinds of a
-//! sheet's entries, the program's `--figures`), from a description in words; never from the
-//! code of the verified link.
+//! stoichiometry), E10 (hauled loads), E11 (how long the answers will be) and E12 (the
+//! side-stream reactor) of document 02 and, for what they have no line for (conversions by
+//! themselves and the figures that they take, `close`, `gap`, the number that asks for a
+//! preview to be written, the kinds of a sheet's entries, the program's `--figures`), from a
+//! description in words; never from the code of the verified link.
 //!
 //! The link:
 //! - `tables`: column names, ceilings, COD of a vector;
 //! - `figures`: a record's nine figures, which are permitted, the house set, TKN of a vector;
 //! - `convert`: feed and return stage by stage, of a drawn vector and of any by itself;
-//! - `plant`: the record with its three tanks and figures, how it is made, the six calls and
+//! - `plant`: the record with its three tanks and figures, how it is made, the eight calls and
 //!   their previews, held;
+//! - `reactor`: the two of these calls that the side-stream reactor's host makes;
 //! - `closing`: what closes in the place of a solver's proposal, and how far off one is;
 //! - `sheets`: a laboratory's single-precision grams, counted and received;
 //! - `blends`: several hauled loads, each drawn by its own k, added to the sludge tank;
@@ -27,7 +28,8 @@
 //! - `random`: the generator of their numbers;
 //! - `balances`: the four balances over a list, from its calls and answers;
 //! - `trials`: figures, records, calls, lines, vectors and proposals to try, fair, damaged and
-//!   out of order, previews, calls to be written, sheets, blends, and lists of lines;
+//!   out of order, previews, calls to be written, sheets, blends, the reactor's water, and lists
+//!   of lines;
 //! - `outside`: trials of the program's input, output and arguments;
 //! - `host`: the functions of the C library, with the feature `library` alone.
 
@@ -45,6 +47,7 @@ pub mod numbers;
 pub mod outside;
 pub mod plant;
 pub mod random;
+pub mod reactor;
 pub mod session;
 pub mod sheets;
 pub mod tables;

@@ -53,7 +53,14 @@ fn read_call(form: &[u8]) -> Option<Call> {
     if let Some(rest) = inner.strip_prefix(b"release ") {
         return whole_number(rest).map(Call::Release);
     }
-    whole_number(inner.strip_prefix(b"recycle ")?).map(Call::Recycle)
+    if let Some(rest) = inner.strip_prefix(b"recycle ") {
+        return whole_number(rest).map(Call::Recycle);
+    }
+    if let Some(rest) = inner.strip_prefix(b"draw ") {
+        return whole_number(rest).map(Call::Draw);
+    }
+    let (nitrite, rest) = leading_number(inner.strip_prefix(b"accept ")?)?;
+    fields(rest, asm1_column).map(|v| Call::Accept(v, nitrite))
 }
 
 /// Reads none or more fields, each ` (name N)`, in the order of their columns: each one names
@@ -172,8 +179,8 @@ const PAIRS: [u8; 200] = {
     pairs
 };
 
-/// How each column of a release is introduced: the bracket, its name and a space.
-const RELEASE_LABELS: [&[u8]; 13] = [
+/// How each column that is handed out is introduced: the bracket, its name and a space.
+const LABELS: [&[u8]; 13] = [
     b" (si ", b" (ss ", b" (xi ", b" (xs ", b" (xbh ", b" (xba ", b" (xp ", b" (so ", b" (sno ",
     b" (snh ", b" (snd ", b" (xnd ", b" (salk ",
 ];
@@ -187,10 +194,11 @@ fn write_fed(out: &mut Writer, told: &FeedTold) {
     out.text(b")");
 }
 
-/// Writes all thirteen columns that a release hands out.
-fn write_released(out: &mut Writer, v: &Asm1) {
-    out.text(b"(ok release");
-    for (label, &column) in RELEASE_LABELS.iter().zip(v) {
+/// Writes what a call tells that hands a vector out: what the answer begins with, and all thirteen
+/// columns.
+fn write_handed_out(out: &mut Writer, begin: &[u8], v: &Asm1) {
+    out.text(begin);
+    for (label, &column) in LABELS.iter().zip(v) {
         out.labelled(label, column);
         out.text(b")");
     }
@@ -208,8 +216,13 @@ fn write<'b>(answer: &Result<Told, Refusal>, buffer: &'b mut [u8]) -> &'b [u8] {
             out.labelled(b"(ok return stripped ", *stripped);
             out.text(b")");
         }
-        Ok(Told::Released(v)) => write_released(&mut out, v),
+        Ok(Told::Released(v)) => write_handed_out(&mut out, b"(ok release", v),
         Ok(Told::Recycled) => out.text(b"(ok recycle)"),
+        Ok(Told::Drawn(v)) => write_handed_out(&mut out, b"(ok draw", v),
+        Ok(Told::Accepted(n2)) => {
+            out.labelled(b"(ok accept n2 ", *n2);
+            out.text(b")");
+        }
         Err(refusal) => write_refusal(&mut out, *refusal),
     }
     out.filled()

@@ -90,6 +90,16 @@ pub fn recycle(record: &mut Record, k: u64) -> u64 {
     on_record(record, &mut [], |plant| plant.recycle(k).map(|()| []))
 }
 
+/// Draws k thousandths for the reactor's host; the vector is handed out in v.
+pub fn draw(record: &mut Record, k: u64, v: &mut Asm1) -> u64 {
+    on_record(record, v, |plant| plant.draw(k))
+}
+
+/// Accepts a vector and ticks of nitrite from the reactor's host; tells the ticks of N2.
+pub fn accept(record: &mut Record, v: &Asm1, nitrite: u64, told: &mut [u64; 1]) -> u64 {
+    on_record(record, told, |plant| plant.accept(v, nitrite).map(|n2| [n2]))
+}
+
 /// Tells COD, TKN, oxygen and nitrate of the three tanks.
 pub fn totals(record: &Record, told: &mut [u64; 4]) -> u64 {
     tell(told, Plant::from_columns(record).held().map(|held| held.numbers()))

@@ -1,5 +1,6 @@
 //! The plant record: sludge, digester and reject tank, and the figures that it was made with;
-//! the six calls on it and their previews, the refusals in their order, and what is held.
+//! the eight calls on it and their previews, the refusals in their order, and what is held. The
+//! two of the side-stream reactor, draw and accept, are made in `reactor`.
 //!
 //! Any nine numbers may stand in a record. Every call tests them first, goes by them, and
 //! leaves them as they are.
@@ -31,7 +32,7 @@ pub enum Refusal {
     NoBlend = 16,
 }
 
-/// One of the six calls, with the numbers and the vector it is handed.
+/// One of the eight calls, with the numbers and the vector it is handed.
 #[derive(Clone, Debug, PartialEq, Eq)]
 pub enum Call {
     Receive(Asm1),
@@ -40,9 +41,11 @@ pub enum Call {
     Return(u64),
     Release(u64),
     Recycle(u64),
+    Draw(u64),
+    Accept(Asm1, u64),
 }
 
-/// What an accepted call tells; a release hands its vector out.
+/// What an accepted call tells; a release and a draw hand their vector out.
 #[derive(Clone, Debug, PartialEq, Eq)]
 pub enum Told {
     Received,
@@ -51,6 +54,8 @@ pub enum Told {
     Returned(u64),
     Released(Asm1),
     Recycled,
+    Drawn(Asm1),
+    Accepted(u64),
 }
 
 /// What the three tanks hold together.
@@ -249,6 +254,8 @@ impl Plant {
             Call::Return(k) => self.give_back(*k).map(Told::Returned),
             Call::Release(k) => self.release(*k).map(Told::Released),
             Call::Recycle(k) => self.recycle(*k).map(|()| Told::Recycled),
+            Call::Draw(k) => self.draw(*k).map(Told::Drawn),
+            Call::Accept(v, nitrite) => self.accept(v, *nitrite).map(Told::Accepted),
         }
     }
 

@@ -51,6 +51,11 @@ fn write_form(out: &mut Writer, call: &Call) {
         Call::Return(k) => out.labelled(b"(return ", *k),
         Call::Release(k) => out.labelled(b"(release ", *k),
         Call::Recycle(k) => out.labelled(b"(recycle ", *k),
+        Call::Draw(k) => out.labelled(b"(draw ", *k),
+        Call::Accept(v, nitrite) => {
+            out.labelled(b"(accept ", *nitrite);
+            write_fields(out, &ASM1_NAMES, v);
+        }
     }
     out.text(b")");
 }

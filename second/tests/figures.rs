@@ -492,6 +492,10 @@ fn fifteen_before_one_by_numbers() {
             assert_eq!((numbers::give_back(&mut record, k, &mut one), one), (15, [0]));
             assert_eq!((numbers::release(&mut record, k, &mut v), v), (15, [0; 13]));
             assert_eq!(numbers::recycle(&mut record, k), 15);
+            let (mut one, mut v) = ([9], [9; 13]);
+            assert_eq!((numbers::draw(&mut record, k, &mut v), v), (15, [0; 13]));
+            let nothing = [0; 13];
+            assert_eq!((numbers::accept(&mut record, &nothing, k, &mut one), one), (15, [0]));
         }
         for proposal in [plant.digester, [u64::MAX; 26]] {
             let (mut four, mut three, mut one, mut d) = ([9; 4], [9; 3], [9], proposal);
@@ -510,10 +514,13 @@ fn fifteen_before_one_by_numbers() {
 #[test]
 fn fifteen_among_lines() {
     let forms = ["(receive)", "(feed 1000)", "(settle 0)", "(return 1)", "(release 1)"];
-    let others = ["(recycle 1)", "(feed 0)", "(receive (ss 1000000000001))", "(settle 1)"];
+    let forms = forms.into_iter().chain(["(recycle 1)", "(draw 1)", "(accept 5)"]);
+    let others = ["(feed 0)", "(receive (ss 1000000000001))", "(settle 1)", "(draw 0)"];
+    let others = others.into_iter().chain(["(accept 10000000000000001)"]);
+    let forms: Vec<&str> = forms.chain(others).collect();
     for plant in records_outside() {
         let (mut after, mut buffer) = (plant, [0xa5; 512]);
-        for form in forms.iter().chain(&others) {
+        for form in &forms {
             assert_eq!(answer(&mut after, form), "(no 15)");
             assert_eq!(answer(&mut after, &format!("(preview {form})")), "(no 15)");
             assert!(lines::answer(&mut after, form.as_bytes(), &mut buffer[..511]).is_empty());
@@ -692,7 +699,7 @@ fn conversions_by_the_rules() {
 /// How often each call was accepted in random lists, and how often refused by each number.
 #[derive(Default, Debug)]
 struct Answers {
-    accepted: [u32; 7],
+    accepted: [u32; 9],
     refused: [u32; 16],
 }
 
@@ -706,7 +713,7 @@ impl Answers {
     }
 }
 
-/// The place of a call among the six.
+/// The place of a call among the eight.
 fn place(call: &Call) -> usize {
     match call {
         Call::Receive(_) => 0,
@@ -715,6 +722,8 @@ fn place(call: &Call) -> usize {
         Call::Return(_) => 3,
         Call::Release(_) => 4,
         Call::Recycle(_) => 5,
+        Call::Draw(_) => 6,
+        Call::Accept(..) => 7,
     }
 }
 
@@ -736,7 +745,7 @@ fn one_call(trial: &mut Trial, plant: &mut Plant, balances: &mut Balances, met: 
 fn one_sheet(trial: &mut Trial, plant: &mut Plant, balances: &mut Balances, met: &mut Answers) {
     let (before, sheet) = (*plant, sheets::sheet(&mut trial.random));
     let refusal = plant.sheet(&sheet).err();
-    met.count(6, refusal.map_or(0, |refusal| refusal as u64));
+    met.count(8, refusal.map_or(0, |refusal| refusal as u64));
     assert_eq!(plant.figures, before.figures);
     match refusal {
         None => balances.count(&Call::Receive(sheet.read().unwrap().0), &[]),
@@ -785,7 +794,7 @@ fn random_lists_outside() {
         let figures = outside(&mut random);
         one_list(Trial::new(random), figures, &mut met);
     }
-    assert_eq!(met.accepted, [0; 7]);
+    assert_eq!(met.accepted, [0; 9]);
     assert!(met.refused[15] > 20_000 && met.refused[13] > 500 && met.refused[14] > 200, "{met:?}");
     assert_eq!([13, 14, 15].map(|number| met.refused[number]).iter().sum::<u32>(), 30_000);
 }

@@ -108,7 +108,7 @@ fn long_as(plant: Plant, line: &str, expected: &str) {
     assert_eq!(told(&plant, twice.as_bytes()), [length + again + held(&after), 0], "{line}");
 }
 
-/// Each of the six calls, accepted: few digits and many.
+/// Each of the eight calls, accepted: few digits and many.
 #[test]
 fn accepted_calls() {
     long_as(Plant::FRESH, "(receive)", "(ok receive)");
@@ -128,24 +128,30 @@ fn accepted_calls() {
     long_as(with_digester(&gases), "(return 1000)", "(ok return stripped 2000000000000)");
     let reject = Plant { reject: asm1(&[("ss", 9)]), ..Plant::FRESH };
     long_as(reject, "(recycle 1000)", "(ok recycle)");
+    long_as(Plant::FRESH, "(accept 0)", "(ok accept n2 0)");
+    long_as(Plant::FRESH, "(accept 25 (ss 9) (sno 3))", "(ok accept n2 10)");
+    long_as(Plant::FRESH, "(accept 9999999999999999)", "(ok accept n2 4000000000000000)");
 }
 
-/// A release of nothing, of a full tank, and of columns that all have their own number of digits.
+/// A release and a draw of nothing, of a full tank, and of columns that all have their own number
+/// of digits.
 #[test]
-fn releases() {
-    let answer_of = |v: &Asm1| {
+fn releases_and_draws() {
+    let answer_of = |word: &str, v: &Asm1| {
         let fields = ASM1_NAMES.iter().zip(v).map(|(name, n)| format!(" ({name} {n})"));
-        format!("(ok release{})", fields.collect::<String>())
+        format!("(ok {word}{})", fields.collect::<String>())
     };
     let growing: Asm1 = std::array::from_fn(|column| 10u64.pow(column as u32));
-    for v in [[0; 13], ASM1_CEILINGS, growing, growing.map(|n| n - 1)] {
-        long_as(Plant { reject: v, ..Plant::FRESH }, "(release 1000)", &answer_of(&v));
+    let (full, halves) = (ASM1_CEILINGS, ASM1_CEILINGS.map(|ceiling| ceiling / 2));
+    let all = [[0; 13], full, growing, growing.map(|n| n - 1)].map(|v| (v, 1000, v));
+    for (reject, k, v) in all.into_iter().chain([(full, 500, halves)]) {
+        for word in ["release", "draw"] {
+            let plant = Plant { reject, ..Plant::FRESH };
+            long_as(plant, &format!("({word} {k})"), &answer_of(word, &v));
+        }
     }
-    let halves = ASM1_CEILINGS.map(|ceiling| ceiling / 2);
-    let full = Plant { reject: ASM1_CEILINGS, ..Plant::FRESH };
-    long_as(full, "(release 500)", &answer_of(&halves));
-    // The longest answer of all.
-    assert_eq!(answer_of(&ASM1_CEILINGS).len(), 283);
+    // The longest answer of all, and that of a draw.
+    assert_eq!(["release", "draw"].map(|word| answer_of(word, &full).len()), [283, 280]);
 }
 
 /// Every refusal that a line can get.
@@ -155,12 +161,14 @@ fn refused_lines() {
     long_as(above, "(feed 1000)", "(no 1)");
     long_as(Plant::FRESH, "(feed 1001)", "(no 2)");
     long_as(Plant::FRESH, "(receive (ss 1000000000001))", "(no 3)");
+    long_as(Plant::FRESH, "(accept 10000000000000001)", "(no 3)");
     long_as(with_sludge(&[("si", 1), ("snh", 279)]), "(feed 1000)", "(no 4)");
     long_as(with_digester(&[("xi", 1), ("sin", 599)]), "(return 1000)", "(no 5)");
     long_as(with_digester(&[("ssu", 5)]), "(settle 0 (ssu 4))", "(no 7)");
     long_as(with_digester(&[("sin", 5)]), "(settle 0 (sin 4))", "(no 8)");
     long_as(with_digester(&[("co", 2)]), "(settle 0)", "(no 9)");
     long_as(with_sludge(&[("ss", COD_CEILING)]), "(receive (ss 1))", "(no 10)");
+    long_as(with_sludge(&[("sno", TICK_CEILING)]), "(accept 2)", "(no 10)");
     long_as(Plant::FRESH, "(receive (xs 1) (ss 1))", "(no 11)");
     long_as(above, "(feed)", "(no 11)");
     let no_figures = Plant { figures: Figures::from_numbers(&[10_001; 9]), ..above };
@@ -170,7 +178,12 @@ fn refused_lines() {
 /// Numbers of each count of digits in every answer and in the held line.
 #[test]
 fn counts_of_digits() {
-    let lists = ["(feed 1000)\n(return 1000)\n(release 1000)\n", "(preview (release 1))", ""];
+    let lists = [
+        "(feed 1000)\n(return 1000)\n(release 1000)\n",
+        "(draw 500)\n(accept 7)\n",
+        "(preview (release 1))",
+        "",
+    ];
     for amount in (0..17).flat_map(|power| [10u64.pow(power) - 1, 10u64.pow(power)]) {
         let v = ASM1_CEILINGS.map(|ceiling| amount.min(ceiling));
         let d: Digester = DIGESTER_CEILINGS.map(|ceiling| amount.min(ceiling));
@@ -185,6 +198,7 @@ fn counts_of_digits() {
                 told(plant, input.as_bytes());
             }
         }
+        told(&Plant::FRESH, format!("(accept {amount})\n(accept {})", v[8] / 2).as_bytes());
     }
 }
 
@@ -201,7 +215,9 @@ const NUMBERS: [usize; 13] = [0, 1, 2, 3, 10, 998, 999, 1000, 1001, 1002, 1999, 
 #[test]
 fn numbers_of_lines() {
     assert_eq!(MOST_LINES, 1000);
-    for (line, length) in [("(receive (ss 0))", 13), ("(feed 0)", 7), ("(", 8), ("(recycle 1)", 13)]
+    let recycle = ("(recycle 1)", 13);
+    for (line, length) in
+        [("(receive (ss 0))", 13), ("(feed 0)", 7), ("(", 8), recycle, ("(accept 1)", 17)]
     {
         for number in NUMBERS {
             let input = repeated(line.as_bytes(), number);
@@ -346,7 +362,7 @@ fn each_line_on_the_record_before_it() {
         reject: asm1(&[("xs", 123_456), ("salk", 9)]),
         figures: HOUSE,
     };
-    let words = ["feed", "return", "release", "recycle"];
+    let words = ["feed", "return", "release", "recycle", "draw", "accept"];
     for first in words {
         for second in words {
             let list = format!("({first} 999)\n({second} 500)\n({second} 500)");
@@ -421,7 +437,7 @@ fn by_numbers() {
 /// refusal, and each refusal of the record; and lists by their number of lines.
 #[derive(Default, Debug)]
 struct Met {
-    accepted: [[u32; 6]; 2],
+    accepted: [[u32; 8]; 2],
     refused: [u32; 17],
     held: [u32; 17],
     lists: [u32; 4],
@@ -435,7 +451,7 @@ fn refusal(answer: &[u8]) -> usize {
     }
 }
 
-/// The place of a call among the six.
+/// The place of a call among the eight.
 fn place(call: &Call) -> usize {
     match call {
         Call::Receive(_) => 0,
@@ -444,6 +460,8 @@ fn place(call: &Call) -> usize {
         Call::Return(_) => 3,
         Call::Release(_) => 4,
         Call::Recycle(_) => 5,
+        Call::Draw(_) => 6,
+        Call::Accept(..) => 7,
     }
 }
 

@@ -1,6 +1,6 @@
 //! Request E3 of document 02: a preview answers as its call would on a copy of the record,
 //! and the record remains the one handed in. Document 01's session with previews, each of
-//! the six calls, the refusals by a preview, lines that are no previews, nested previews,
+//! the eight calls, the refusals by a preview, lines that are no previews, nested previews,
 //! the longest lines, the lent buffer, the balances, and random lists with previews.
 
 mod named;
@@ -137,13 +137,15 @@ fn refused(plant: Plant, form: &str, number: u64) {
 }
 
 /// A form of each call that a fresh record accepts.
-const FORMS: [&str; 6] = [
+const FORMS: [&str; 8] = [
     "(receive (ss 1))",
     "(feed 1000)",
     "(settle 0)",
     "(return 1)",
     "(release 1000)",
     "(recycle 9)",
+    "(draw 1000)",
+    "(accept 5 (ss 1))",
 ];
 
 /// A record above a ceiling in any tank is refused and stays, also where another refusal applies.
@@ -156,7 +158,9 @@ fn refusal_1() {
         Plant { reject, ..Plant::FRESH },
     ] {
         let others = ["(feed 0)", "(receive (ss 1000000000001))", "(settle 1)", "(recycle 1001)"];
-        for form in FORMS.iter().chain(&others) {
+        let later =
+            ["(draw 0)", "(accept 10000000000000001)", "(accept 0 (sno 10000000000000001))"];
+        for form in FORMS.iter().chain(&others).chain(&later) {
             refused(above, form, 1);
         }
     }
@@ -168,13 +172,15 @@ fn refusal_1() {
 /// The other refusals by a preview: the small examples of document 01, and each call's own.
 #[test]
 fn refusals_2_to_10() {
-    for word in ["feed", "return", "release", "recycle"] {
+    for word in ["feed", "return", "release", "recycle", "draw"] {
         for k in [0, 1001, u64::MAX] {
             refused(Plant::FRESH, &format!("({word} {k})"), 2);
         }
     }
     refused(Plant::FRESH, "(receive (ss 1000000000001))", 3);
     refused(Plant::FRESH, "(settle 0 (cn 10000000000000001))", 3);
+    refused(Plant::FRESH, "(accept 0 (ss 1000000000001))", 3);
+    refused(Plant::FRESH, "(accept 10000000000000001)", 3);
     refused(with_sludge(&[("si", 1), ("snh", 279)]), "(feed 1000)", 4);
     refused(with_digester(&[("xi", 1), ("sin", 599)]), "(return 1000)", 5);
     refused(with_digester(&[("ssu", 5)]), "(settle 0 (ssu 4))", 7);
@@ -182,6 +188,8 @@ fn refusals_2_to_10() {
     refused(with_digester(&[("co", 2)]), "(settle 0)", 9);
     let full = with_sludge(&[("ss", COD_CEILING)]);
     refused(full, "(receive (ss 1))", 10);
+    refused(full, "(accept 0 (ss 1))", 10);
+    refused(with_sludge(&[("sno", TICK_CEILING)]), "(accept 2)", 10);
     refused(Plant { reject: asm1(&[("ss", 1)]), ..full }, "(recycle 1000)", 10);
     let sludge = asm1(&[("ss", 1)]);
     refused(Plant { sludge, ..with_digester(&[("ssu", COD_CEILING)]) }, "(feed 1000)", 10);
@@ -194,6 +202,7 @@ fn refusals_2_to_10() {
 fn refusals_in_order() {
     let full = with_sludge(&[("ss", COD_CEILING)]);
     refused(full, "(receive (ss 1) (xs 1000000000001))", 3);
+    refused(full, "(accept 10000000000000001 (ss 1))", 3);
     let open = with_digester(&[("ssu", 5), ("sin", 5), ("co", 1)]);
     refused(open, "(settle 0)", 7);
     refused(open, "(settle 5)", 8);
@@ -221,10 +230,14 @@ fn lines_that_are_previews() {
     reads("(preview (return 0))", Call::Return(0));
     reads("(preview (release 10))", Call::Release(10));
     reads("(preview (recycle 1000))", Call::Recycle(1000));
+    reads("(preview (draw 0))", Call::Draw(0));
+    reads("(preview (accept 18446744073709551615))", Call::Accept([0; 13], u64::MAX));
+    let v = asm1(&[("ss", 0), ("sno", 7), ("salk", 1)]);
+    reads("(preview (accept 0 (ss 0) (sno 7) (salk 1)))", Call::Accept(v, 0));
 }
 
 /// Lines with the word, or nearly so, that are no forms.
-const BROKEN: [&str; 56] = [
+const BROKEN: [&str; 63] = [
     "preview",
     "preview (feed 1)",
     "(preview)",
@@ -276,6 +289,13 @@ const BROKEN: [&str; 56] = [
     "(preview (settle))",
     "(preview (settle 0 (xi 1) (sac 2)))",
     "(preview (settle 0 (ss 1)))",
+    "(preview (draw))",
+    "(preview (draw 01))",
+    "(preview (draw 1 (ss 1)))",
+    "(preview (accept))",
+    "(preview (accept (ss 1)))",
+    "(preview (accept 5 (xs 1) (ss 1)))",
+    "(preview (accept 5 (sin 1)))",
     "(preview ())",
     "(preview ( ))",
     "(preview (held))",
@@ -376,7 +396,7 @@ fn lent_buffer() {
 }
 
 /// A list with every call, each line with its answer.
-const WORKED: [(&str, &str); 8] = [
+const WORKED: [(&str, &str); 11] = [
     ("(receive (ss 10) (so 4) (sno 300) (snh 7))", "(ok receive)"),
     ("(feed 1000)", "(ok feed burnt 5 oxygen 4 nitrate 300 warn 0)"),
     ("(settle 2 (ssu 1) (sch4 2) (sin 7))", "(ok settle)"),
@@ -384,8 +404,15 @@ const WORKED: [(&str, &str); 8] = [
     ("(return 1000)", "(ok return stripped 2)"),
     ("(recycle 500)", "(ok recycle)"),
     (
+        "(draw 500)",
+        "(ok draw (si 0) (ss 0) (xi 0) (xs 0) (xbh 0) (xba 0) (xp 0) (so 0) (sno 0) (snh 2) \
+        (snd 0) (xnd 0) (salk 0))",
+    ),
+    ("(accept 8 (snh 1))", "(ok accept n2 4)"),
+    ("(accept 10000000000000001)", "(no 3)"),
+    (
         "(release 1000)",
-        "(ok release (si 0) (ss 1) (xi 0) (xs 0) (xbh 0) (xba 0) (xp 0) (so 0) (sno 0) (snh 4) \
+        "(ok release (si 0) (ss 1) (xi 0) (xs 0) (xbh 0) (xba 0) (xp 0) (so 0) (sno 0) (snh 2) \
         (snd 0) (xnd 0) (salk 0))",
     ),
     ("(receive (ss 0))", "(ok receive)"),
@@ -404,14 +431,15 @@ fn previews_count_for_nothing() {
         assert_eq!(answer(&mut plant, line.as_bytes()), expected.as_bytes());
         balances.count_line(line.as_bytes(), expected.as_bytes());
     }
-    // COD: burnt 5, gas 2, stripped 2, released 1. TKN: released 4, and 3 are recycled.
-    assert_eq!(balances.received, [10, 7, 4, 300]);
-    assert_eq!(balances.left, [10, 4, 4, 300]);
-    assert_eq!(plant, with_sludge(&[("snh", 3)]));
-    assert_eq!(balances.check([0, 3, 0, 0]), Ok(()));
+    // COD: burnt 5, gas 2, stripped 2, released 1. TKN: released 2, drawn 2, and 3 are recycled.
+    // Nitrate: 300 are reduced; of 8 ticks of nitrite 4 are N2.
+    assert_eq!(balances.received, [10, 8, 4, 308]);
+    assert_eq!(balances.left, [10, 4, 4, 304]);
+    assert_eq!(plant, with_sludge(&[("sno", 4), ("snh", 4)]));
+    assert_eq!(balances.check([0, 4, 0, 4]), Ok(()));
 }
 
-/// The place of a call among the six.
+/// The place of a call among the eight.
 fn place(call: &Call) -> usize {
     match call {
         Call::Receive(_) => 0,
@@ -420,13 +448,15 @@ fn place(call: &Call) -> usize {
         Call::Return(_) => 3,
         Call::Release(_) => 4,
         Call::Recycle(_) => 5,
+        Call::Draw(_) => 6,
+        Call::Accept(..) => 7,
     }
 }
 
 /// How many previews were accepted of each call, and how many were refused by each number.
 #[derive(Default, Debug)]
 struct Met {
-    accepted: [u32; 6],
+    accepted: [u32; 8],
     refused: [u32; 16],
 }
 

@@ -300,7 +300,7 @@ fn random_list(number: u64, met: &mut Met) -> u32 {
 #[test]
 fn random_lists_balance() {
     let mut met = Met::default();
-    let recycling = (0..2000).filter(|&number| random_list(number, &mut met) > 1).count();
+    let recycling = (0..2500).filter(|&number| random_list(number, &mut met) > 1).count();
     assert!(recycling >= 1000, "{recycling} lists, {met:?}");
     for refusal in [0, 1, 2, 10, 15] {
         assert!(met.answers[refusal] >= 400, "{met:?}");

@@ -40,7 +40,7 @@ fn writes(call: Call, form: &str) {
 }
 
 /// A call of each kind that has nothing to be left away.
-fn calls() -> [Call; 6] {
+fn calls() -> [Call; 8] {
     [
         Call::Receive([1; 13]),
         Call::Feed(1000),
@@ -48,10 +48,12 @@ fn calls() -> [Call; 6] {
         Call::Return(500),
         Call::Release(1),
         Call::Recycle(u64::MAX),
+        Call::Draw(20),
+        Call::Accept([1; 13], 7),
     ]
 }
 
-/// Each of the six calls, with one space between items and none elsewhere.
+/// Each of the eight calls, with one space between items and none elsewhere.
 #[test]
 fn each_call() {
     let v = asm1(&[("ss", 10000), ("xs", 30000), ("so", 5000), ("sno", 100_000_000)]);
@@ -62,6 +64,9 @@ fn each_call() {
     writes(Call::Return(7), "(return 7)");
     writes(Call::Release(999), "(release 999)");
     writes(Call::Recycle(1), "(recycle 1)");
+    writes(Call::Draw(300), "(draw 300)");
+    let v = asm1(&[("snh", 5), ("si", 3), ("sno", 4)]);
+    writes(Call::Accept(v, 77), "(accept 77 (si 3) (sno 4) (snh 5))");
 }
 
 /// A call's own number is written also where it is 0; a vector of zeros is not.
@@ -71,10 +76,14 @@ fn own_number_zero() {
     writes(Call::Return(0), "(return 0)");
     writes(Call::Release(0), "(release 0)");
     writes(Call::Recycle(0), "(recycle 0)");
+    writes(Call::Draw(0), "(draw 0)");
     writes(Call::Settle(0, [0; 26]), "(settle 0)");
     writes(Call::Settle(0, digester(&[("xi", 3)])), "(settle 0 (xi 3))");
     writes(Call::Settle(9, [0; 26]), "(settle 9)");
     writes(Call::Receive([0; 13]), "(receive)");
+    writes(Call::Accept([0; 13], 0), "(accept 0)");
+    writes(Call::Accept(asm1(&[("xi", 3)]), 0), "(accept 0 (xi 3))");
+    writes(Call::Accept([0; 13], 9), "(accept 9)");
 }
 
 /// Numbers above every ceiling, and thousandths that no call takes, are written as they are.
@@ -86,9 +95,14 @@ fn numbers_above_ceilings() {
         writes(Call::Return(k), &format!("(return {k})"));
         writes(Call::Release(k), &format!("(release {k})"));
         writes(Call::Recycle(k), &format!("(recycle {k})"));
+        writes(Call::Draw(k), &format!("(draw {k})"));
     }
     let v = asm1(&[("si", COD_CEILING + 1), ("salk", most)]);
     writes(Call::Receive(v), &format!("(receive (si 1000000000001) (salk {most}))"));
+    for nitrite in [TICK_CEILING, TICK_CEILING + 1, most] {
+        let form = format!("(accept {nitrite} (si 1000000000001) (salk {most}))");
+        writes(Call::Accept(v, nitrite), &form);
+    }
     let v = digester(&[("sin", TICK_CEILING + 1), ("cn", most)]);
     writes(Call::Settle(most, v), &format!("(settle {most} (sin 10000000000000001) (cn {most}))"));
 }
@@ -107,6 +121,8 @@ fn one_column_and_all_but_one() {
         let rest: Vec<&str> = ASM1_NAMES.into_iter().filter(|other| other != name).collect();
         let all_but_one = alone.map(|number| 5 - number);
         writes(Call::Receive(all_but_one), &format!("(receive{})", fields(&rest, 5)));
+        writes(Call::Accept(alone, 6), &format!("(accept 6 ({name} 5))"));
+        writes(Call::Accept(all_but_one, 6), &format!("(accept 6{})", fields(&rest, 5)));
     }
     for (column, name) in DIGESTER_NAMES.iter().enumerate() {
         let alone = std::array::from_fn(|other| 5 * u64::from(other == column));
@@ -121,9 +137,10 @@ fn one_column_and_all_but_one() {
 #[test]
 fn all_columns_in_order() {
     let v = std::array::from_fn(|column| 10 + column as u64);
-    let expected = "(receive (si 10) (ss 11) (xi 12) (xs 13) (xbh 14) (xba 15) (xp 16) (so 17) \
-        (sno 18) (snh 19) (snd 20) (xnd 21) (salk 22))";
-    writes(Call::Receive(v), expected);
+    let columns = " (si 10) (ss 11) (xi 12) (xs 13) (xbh 14) (xba 15) (xp 16) (so 17) (sno 18) \
+        (snh 19) (snd 20) (xnd 21) (salk 22)";
+    writes(Call::Receive(v), &format!("(receive{columns})"));
+    writes(Call::Accept(v, 9), &format!("(accept 9{columns})"));
     let v = std::array::from_fn(|column| 10 + column as u64);
     let expected = "(settle 9 (si 10) (ssu 11) (saa 12) (sfa 13) (sva 14) (sbu 15) (spro 16) \
         (sac 17) (sh2 18) (sch4 19) (xi 20) (xc 21) (xch 22) (xpr 23) (xli 24) (xsu 25) (xaa 26) \
@@ -138,6 +155,7 @@ fn longest_and_shortest() {
     let most = u64::MAX;
     let receive = format!("(receive{})", fields(&ASM1_NAMES, most));
     let settle = format!("(settle {most}{})", fields(&DIGESTER_NAMES, most));
+    let accept = format!("(accept {most}{})", fields(&ASM1_NAMES, most));
     for (call, form, count) in [
         (Call::Receive([most; 13]), receive, 356),
         (Call::Feed(most), "(feed 18446744073709551615)".into(), 28),
@@ -145,12 +163,16 @@ fn longest_and_shortest() {
         (Call::Return(most), "(return 18446744073709551615)".into(), 30),
         (Call::Release(most), "(release 18446744073709551615)".into(), 31),
         (Call::Recycle(most), "(recycle 18446744073709551615)".into(), 31),
+        (Call::Draw(most), "(draw 18446744073709551615)".into(), 28),
+        (Call::Accept([most; 13], most), accept, 376),
         (Call::Receive([0; 13]), "(receive)".into(), 10),
         (Call::Feed(0), "(feed 0)".into(), 9),
         (Call::Settle(0, [0; 26]), "(settle 0)".into(), 11),
         (Call::Return(0), "(return 0)".into(), 11),
         (Call::Release(0), "(release 0)".into(), 12),
         (Call::Recycle(0), "(recycle 0)".into(), 12),
+        (Call::Draw(0), "(draw 0)".into(), 9),
+        (Call::Accept([0; 13], 0), "(accept 0)".into(), 11),
     ] {
         writes(call.clone(), &form);
         assert_eq!(written(&asked(call.clone(), 0)).len(), count);
@@ -175,12 +197,36 @@ fn preview_of_the_longest_settle() {
     assert_eq!(printed, b"(no 3)\n(held cod 0 tkn 0 oxygen 0 nitrate 0)\n");
 }
 
+/// Writes the line of a call and of its preview; the answer has to be the one that is expected, and
+/// the record after the call, and not after its preview, `after`.
+fn assert_answered(before: Plant, call: &Call, expected: &str, after: Plant) {
+    for (preview, after) in [(0, after), (1, before)] {
+        let (mut plant, mut buffer) = (before, [0; 512]);
+        let line = line_of(&asked(call.clone(), preview));
+        assert_eq!(lines::answer(&mut plant, &line, &mut buffer), expected.as_bytes());
+        assert_eq!(plant, after);
+    }
+}
+
+/// The written line of a refused call is answered with its refusal and leaves the record.
+#[test]
+fn written_lines_are_refused() {
+    let open = with_digester(&[("sin", 5)]);
+    for (call, expected) in [
+        (Call::Accept([0; 13], TICK_CEILING + 1), "(no 3)"),
+        (Call::Draw(1001), "(no 2)"),
+        (Call::Settle(0, [0; 26]), "(no 8)"),
+        (Call::Release(0), "(no 2)"),
+    ] {
+        assert_answered(open, &call, expected, open);
+    }
+}
+
 /// A written line is answered as its call is and moves the record so, and its preview's does not.
 #[test]
 fn written_lines_are_answered() {
     let received = asm1(&[("ss", 10), ("snh", 40)]);
     let settled = [("sch4", 6), ("xli", 3), ("sin", 980), ("sic", 5), ("co", 2)];
-    let open = with_digester(&[("sin", 5)]);
     for (before, call, expected, after) in [
         (
             with_sludge(&[("xi", 1)]),
@@ -200,15 +246,14 @@ fn written_lines_are_answered() {
             "(ok settle)",
             with_digester(&settled),
         ),
-        (open, Call::Settle(0, [0; 26]), "(no 8)", open),
-        (open, Call::Release(0), "(no 2)", open),
+        (
+            with_sludge(&[("sno", 2)]),
+            Call::Accept(asm1(&[("sno", 1), ("salk", 4)]), 9),
+            "(ok accept n2 4)",
+            with_sludge(&[("sno", 8), ("salk", 4)]),
+        ),
     ] {
-        for (preview, after) in [(0, after), (1, before)] {
-            let (mut plant, mut buffer) = (before, [0; 512]);
-            let line = line_of(&asked(call.clone(), preview));
-            assert_eq!(lines::answer(&mut plant, &line, &mut buffer), expected.as_bytes());
-            assert_eq!(plant, after);
-        }
+        assert_answered(before, &call, expected, after);
     }
 }
 
@@ -223,6 +268,7 @@ fn numbers_of_each_length() {
             writes(Call::Recycle(number), &format!("(recycle {number})"));
             let v = asm1(&[("xp", number), ("so", 1)]);
             writes(Call::Receive(v), &format!("(receive (xp {number}) (so 1))"));
+            writes(Call::Accept(v, number), &format!("(accept {number} (xp {number}) (so 1))"));
             let v = digester(&[("xh2", number)]);
             writes(Call::Settle(number, v), &format!("(settle {number} (xh2 {number}))"));
         }
@@ -338,6 +384,7 @@ impl Cut {
     fn names(&self) -> &'static [&'static str] {
         match &self.head[..] {
             b"(receive" => &ASM1_NAMES,
+            head if head.starts_with(b"(accept ") => &ASM1_NAMES,
             head if head.starts_with(b"(settle ") => &DIGESTER_NAMES,
             _ => &[],
         }
@@ -501,8 +548,12 @@ fn neighbours(line: &[u8]) -> impl Iterator<Item = Vec<u8>> + '_ {
 fn one_byte_away() {
     let receive = Call::Receive(asm1(&[("si", 1), ("sno", 20), ("salk", 7)]));
     let settle = Call::Settle(0, digester(&[("si", 10), ("sic", 3), ("cn", 1)]));
+    let accept = Call::Accept(asm1(&[("si", 1), ("sno", 20), ("salk", 7)]), 0);
     let others = [Call::Receive([0; 13]), Call::Settle(10, [0; 26]), Call::Feed(0)];
-    for call in calls().into_iter().skip(3).chain(others).chain([receive, settle]) {
+    let others = others.into_iter().chain([Call::Accept([0; 13], 10)]);
+    let [.., back, released, recycled, drawn, _] = calls();
+    let own = [back, released, recycled, drawn, receive, settle, accept];
+    for call in own.into_iter().chain(others) {
         for asked in [asked(call.clone(), 0), asked(call, 1)] {
             for other in neighbours(&line_of(&asked)) {
                 let outcome = check(&asked, &other);
@@ -541,7 +592,10 @@ fn said(refusal: u64, accepted: String) -> String {
 
 /// The answer to a call that is made by numbers on this record.
 fn by_numbers(record: &mut Record, call: &Call) -> String {
-    let (mut told1, mut told4, mut released) = ([0; 1], [0; 4], [0; 13]);
+    let (mut told1, mut told4, mut v) = ([0; 1], [0; 4], [0; 13]);
+    let columns = |v: [u64; 13]| -> String {
+        ASM1_NAMES.iter().zip(v).map(|(name, n)| format!(" ({name} {n})")).collect()
+    };
     match call {
         Call::Receive(v) => said(numbers::receive(record, v), "(ok receive)".into()),
         Call::Feed(k) => {
@@ -556,12 +610,18 @@ fn by_numbers(record: &mut Record, call: &Call) -> String {
             said(refusal, format!("(ok return stripped {})", told1[0]))
         }
         Call::Release(k) => {
-            let refusal = numbers::release(record, *k, &mut released);
-            let columns = ASM1_NAMES.iter().zip(released);
-            let columns: String = columns.map(|(name, n)| format!(" ({name} {n})")).collect();
-            said(refusal, format!("(ok release{columns})"))
+            let refusal = numbers::release(record, *k, &mut v);
+            said(refusal, format!("(ok release{})", columns(v)))
         }
         Call::Recycle(k) => said(numbers::recycle(record, *k), "(ok recycle)".into()),
+        Call::Draw(k) => {
+            let refusal = numbers::draw(record, *k, &mut v);
+            said(refusal, format!("(ok draw{})", columns(v)))
+        }
+        Call::Accept(back, nitrite) => {
+            let refusal = numbers::accept(record, back, *nitrite, &mut told1);
+            said(refusal, format!("(ok accept n2 {})", told1[0]))
+        }
     }
 }
 

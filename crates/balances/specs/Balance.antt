@@ -1,6 +1,6 @@
 -- The balances over a list of calls: demand 3 of document 01, "The plant record and its five calls", and document 02, E1 (a recycle is
 -- neither received nor released), E3 (a preview counts for nothing), E6 (a sheet counts by its counts), E7 (the figures are the
--- record's own) and E10 (a blend counts by its draws).
+-- record's own), E10 (a blend counts by its draws) and E12 (a draw is released, and what is accepted is received with its nitrite).
 --
 --   Entry                                    what stands in a list: a call, a preview of one, a laboratory sheet, or a blend
 --   entry                                    an entry by whether it is a preview
@@ -9,13 +9,16 @@
 --   sheet_adds, blend_adds                   what a sheet and a blend add to it: a sheet is a receive of its counts, a blend one of all its
 --                                            draws; a sheet with a bad column, and a blend that is refused, are nothing
 --   accepted                                 an answer that is no refusal
---   counts                                   what a call counts for: a receive takes its vector in, a release hands one out, a settle lets
---                                            gas go; of the others, recycles among them, only what they tell is counted
---   received, released                       a total of the vectors handed to accepted receives, of the counts of accepted sheets and of
---                                            the draws of accepted blends, and of the vectors handed out by accepted releases
+--   counts                                   what a call counts for: a receive and an accept take their vector in, and the accept its
+--                                            nitrite too, a release and a draw hand one out, a settle lets gas go; of the others,
+--                                            recycles among them, only what they tell is counted
+--   received, released                       a total of the vectors handed to accepted receives and accepts, of the counts of accepted
+--                                            sheets and of the draws of accepted blends, and of the vectors handed out by accepted
+--                                            releases and draws
+--   nitrite, received_nitrate                the nitrite handed to accepted accepts, and received nitrate with it
 --   burnt, oxygen_reduced, nitrate_reduced   what accepted feeds tell
 --   gas                                      the gas COD handed to accepted settles
---   stripped                                 what accepted returns tell
+--   stripped, n2                             what accepted returns and accepts tell
 --   without_previews, SkipLaw                a list without its previews: the same record is after it, and every sum is the same.
 --                                            proofs/Laws/Balance.antt proves it: previews-skipped
 --   sheets_as_calls, SheetLaw                a list with its sheets as receives of their counts, likewise: sheets-as-calls
@@ -28,8 +31,8 @@
 --                                            any permitted set of figures; of a set that is not permitted too, where each call is refused
 --                                            and each sum is zero: balance
 --
--- A list holds everything that is handed to its calls, previews, sheets and blends: any k, any gas, any vector, any entries and any two
--- slices of any length, honest or not. Its sums are whole numbers without a ceiling.
+-- A list holds everything that is handed to its calls, previews, sheets and blends: any k, any gas, any nitrite, any vector, any
+-- entries and any two slices of any length, honest or not. Its sums are whole numbers without a ceiling.
 use Rattle.std.specs.Prelude.{Bool, true, false, cond, List, [], ◌∷◌, ◌≡◌, ℕ, ◌+◌, Float, is_none, get_or}
 use Rattle.refusals.specs.Tests.{first}
 use Rattle.vectors.specs.declared.figures.Figures.{Figures}
@@ -92,23 +95,26 @@ abbrev pub accepted : Answer → Bool
 accepted a = is_none (refused_with a)
 
 -- what an accepted call counts for: whether the vector that it is handed is received, whether the one that it hands out is released,
--- and a gas COD
+-- a gas COD, and the nitrite beside the vector
 pub record Counts : Type 0 where
   pub received : Bool
   pub released : Bool
   pub gas : ℕ
+  pub nitrite : ℕ
 
 -- a call between the tanks: what it lets go of, if anything, it tells
 abbrev pub inside : Counts
-inside = record { received = false; released = false; gas = 0 }
+inside = record { received = false; released = false; gas = 0; nitrite = 0 }
 
 abbrev pub counts : Call → Counts
-counts call.Receive = record { received = true; released = false; gas = 0 }
+counts call.Receive = record { received = true; released = false; gas = 0; nitrite = 0 }
 counts (call.Feed k) = inside
-counts (call.Settle g) = record { received = false; released = false; gas = g.0 }
+counts (call.Settle g) = record { received = false; released = false; gas = g.0; nitrite = 0 }
 counts (call.Return k) = inside
-counts (call.Release k) = record { received = false; released = true; gas = 0 }
+counts (call.Release k) = record { received = false; released = true; gas = 0; nitrite = 0 }
 counts (call.Recycle k) = inside
+counts (call.Draw k) = record { received = false; released = true; gas = 0; nitrite = 0 }
+counts (call.Accept n) = record { received = true; released = false; gas = 0; nitrite = n.0 }
 
 -- a refused call adds nothing
 abbrev pub if_accepted : Outcome → ℕ → ℕ
@@ -123,11 +129,20 @@ released_by total r o = if_accepted o (cond (counts r.call).released (total o.ve
 abbrev pub gas_by : Request → Outcome → ℕ
 gas_by r o = if_accepted o (counts r.call).gas
 
+abbrev pub nitrite_by : Request → Outcome → ℕ
+nitrite_by r o = if_accepted o (counts r.call).nitrite
+
 -- ---- the sums, from a fresh record of the figures f
 
 module _ (f : Figures) (es : List Entry) where
   abbrev pub received : (List ℕ → ℕ) → ℕ
   received total = sum_over (received_by total) (fresh_plant f) es
+
+  abbrev pub nitrite : ℕ
+  nitrite = sum_over nitrite_by (fresh_plant f) es
+
+  abbrev pub received_nitrate : ℕ
+  received_nitrate = received asm1_nitrate + nitrite
 
   abbrev pub released : (List ℕ → ℕ) → ℕ
   released total = sum_over (released_by total) (fresh_plant f) es
@@ -147,13 +162,17 @@ module _ (f : Figures) (es : List Entry) where
   abbrev pub stripped : ℕ
   stripped = sum_over (λ r o. (told o.answer).stripped) (fresh_plant f) es
 
+  abbrev pub n2 : ℕ
+  n2 = sum_over (λ r o. (told o.answer).n2) (fresh_plant f) es
+
 -- ---- the claims
 
 pub record Balanced (f : Figures) (es : List Entry) : Type 0 where
   pub cod : received f es asm1_cod ≡ cod_in (after (fresh_plant f) es) + released f es asm1_cod + burnt f es + gas f es + stripped f es
   pub tkn : received f es (asm1_tkn f) ≡ tkn_in (after (fresh_plant f) es) + released f es (asm1_tkn f)
   pub oxygen : received f es asm1_oxygen ≡ oxygen_in (after (fresh_plant f) es) + released f es asm1_oxygen + oxygen_reduced f es
-  pub nitrate : received f es asm1_nitrate ≡ nitrate_in (after (fresh_plant f) es) + released f es asm1_nitrate + nitrate_reduced f es
+  pub nitrate : received_nitrate f es
+      ≡ nitrate_in (after (fresh_plant f) es) + released f es asm1_nitrate + nitrate_reduced f es + n2 f es
 
 abbrev pub BalanceLaw : Type 0
 BalanceLaw = (f : Figures) (es : List Entry) → Balanced f es
@@ -179,6 +198,7 @@ pub record Moved (p : Plant) (r : Request) (o : Outcome) : Type 0 where
   pub received : (total : List ℕ → ℕ) → received_by total r o ≡ 0
   pub released : (total : List ℕ → ℕ) → released_by total r o ≡ 0
   pub gas : gas_by r o ≡ 0
+  pub nitrite : nitrite_by r o ≡ 0
   pub silent : told o.answer ≡ nothing (told o.answer).number
 
 abbrev pub MovesLaw : Type 0

@@ -5,10 +5,10 @@
 --   ExamplesHold                the text of each row is its line
 use Rattle.std.specs.Prelude.{Bool, true, false, List, [], ◌∷◌, map, ◌≡◌, ℕ}
 use Prim.Native.String.{String}
-use Rattle.vectors.specs.Units.{milligrams}
+use Rattle.vectors.specs.Units.{milligrams, ticks}
 use Rattle.interface.specs.Plants.{Named, ◌is◌, asm1_named, digester_named}
 use Rattle.plant.specs.declared.answer.Request.{Request}
-use Rattle.plant.specs.Calls.{receiving, feeding, settling, returning, releasing, recycling}
+use Rattle.plant.specs.Calls.{receiving, feeding, settling, returning, releasing, recycling, drawing, accepting}
 use Rattle.reading.specs.Text.{ascii}
 use Rattle.composing.specs.Line.{entry_text}
 
@@ -31,6 +31,9 @@ receiving_named ns = receiving (asm1_named ns)
 abbrev pub settling_named : ℕ → List Named → Request
 settling_named g ns = settling (milligrams g) (digester_named ns)
 
+abbrev pub accepting_named : ℕ → List Named → Request
+accepting_named n ns = accepting (asm1_named ns) (ticks n)
+
 abbrev pub examples : List Row
 examples =
     (receiving_named ("ss" is 10 ∷ "xs" is 30 ∷ []) writes "(receive (ss 10) (xs 30))")
@@ -49,10 +52,14 @@ examples =
     ∷ (returning 20 writes "(return 20)")
     ∷ (releasing 100 writes "(release 100)")
     ∷ (recycling 18_446_744_073_709_551_615 writes "(recycle 18446744073709551615)")
+    ∷ (drawing 250 writes "(draw 250)")
+    ∷ (accepting_named 0 [] writes "(accept 0)")
+    ∷ (accepting_named 9 ("sno" is 5 ∷ "si" is 1 ∷ []) writes "(accept 9 (si 1) (sno 5))")
     -- previews
     ∷ (feeding 1000 previews "(preview (feed 1000))")
     ∷ (receiving_named ("ss" is 10 ∷ []) previews "(preview (receive (ss 10)))")
     ∷ (settling_named 0 ("xc" is 9 ∷ []) previews "(preview (settle 0 (xc 9)))")
+    ∷ (accepting_named 7 ("salk" is 2 ∷ []) previews "(preview (accept 7 (salk 2)))")
     ∷ []
 
 -- the texts of the rows are their lines, one by one

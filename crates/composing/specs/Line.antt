@@ -1,7 +1,8 @@
--- A call as a line: document 02, E5.
+-- A call as a line: document 02, E5 and E12.
 --
 --   fields_from, fields_text               the columns of a vector in order, left away where they are zero
---   receive_text, settle_text, call_text   a call in its brackets, with the vector that it takes
+--   receive_text, numbered_text            a word and the columns of a vector, and a word, a number and these
+--   call_text                              a call in its brackets, with the vector that it takes
 --   entry_text                             the same, or a preview of it
 --   asked                                  what a line with the call is read as: the vector that it does not take is zero
 --   Holds                                  13 and 26 columns, and no number above 2^64 − 1, as the code has them
@@ -16,7 +17,7 @@
 use Rattle.std.specs.Prelude.{Bool, true, false, cond, not, ◌&&◌, Option, List, [], ◌∷◌, ◌++◌, ◌≡◌, ℕ, ◌≤◌, eqb, length, get_or, replicate}
 use Rattle.plant.specs.declared.record.Plant.{Plant}
 use Rattle.plant.specs.declared.answer.Call.{Call}
-use Rattle.plant.specs.declared.answer.Call.TheVariants.{Receive, Feed, Settle, Return, Release, Recycle}
+use Rattle.plant.specs.declared.answer.Call.TheVariants.{Receive, Feed, Settle, Return, Release, Recycle, Draw, Accept}
 use Rattle.plant.specs.declared.answer.Request.{Request}
 use Rattle.plant.specs.Calls.{outcome_by}
 use Rattle.reading.specs.declared.names.Vector.TheVariants.{Sludge, Digester}
@@ -41,17 +42,19 @@ fields_text names v = fields_from 0 names v
 abbrev pub receive_text : List ℕ → List ℕ
 receive_text v = bracketed (ascii "receive" ++ fields_text (names_of Sludge) v)
 
-abbrev pub settle_text : ℕ → List ℕ → List ℕ
-settle_text g d = bracketed (labelled (ascii "settle ") g ++ fields_text (names_of Digester) d)
+abbrev pub numbered_text : List ℕ → ℕ → List (List ℕ) → List ℕ → List ℕ
+numbered_text label n names v = bracketed (labelled label n ++ fields_text names v)
 
 -- the call's own number is always written
 abbrev pub call_text : Call → List ℕ → List ℕ → List ℕ
 call_text Receive v d = receive_text v
 call_text (Feed k) v d = bracketed (labelled (ascii "feed ") k)
-call_text (Settle g) v d = settle_text g.0 d
+call_text (Settle g) v d = numbered_text (ascii "settle ") g.0 (names_of Digester) d
 call_text (Return k) v d = bracketed (labelled (ascii "return ") k)
 call_text (Release k) v d = bracketed (labelled (ascii "release ") k)
 call_text (Recycle k) v d = bracketed (labelled (ascii "recycle ") k)
+call_text (Draw k) v d = bracketed (labelled (ascii "draw ") k)
+call_text (Accept n) v d = numbered_text (ascii "accept ") n.0 (names_of Sludge) v
 
 -- a request, or a preview of it
 abbrev pub entry_text : Bool → Request → List ℕ
@@ -66,6 +69,8 @@ asked_by b (Settle g) v d = line_of (Settle g) b (replicate 13 0) d
 asked_by b (Return k) v d = bare (Return k) b
 asked_by b (Release k) v d = bare (Release k) b
 asked_by b (Recycle k) v d = bare (Recycle k) b
+asked_by b (Draw k) v d = bare (Draw k) b
+asked_by b (Accept n) v d = line_of (Accept n) b v (replicate 26 0)
 
 abbrev pub asked : Bool → Request → Option Asked
 asked b r = asked_by b r.call r.sludge r.digester
@@ -78,6 +83,8 @@ own_number (Settle g) = g.0
 own_number (Return k) = k
 own_number (Release k) = k
 own_number (Recycle k) = k
+own_number (Draw k) = k
+own_number (Accept n) = n.0
 
 -- n columns, none above 2^64 − 1
 abbrev pub Columns : ℕ → List ℕ → Type 0

@@ -68,6 +68,11 @@ fn put_call(page: &mut Page, r: Request)
         Call::Return(k) => page.told(&[(b"(return ", k)]),
         Call::Release(k) => page.told(&[(b"(release ", k)]),
         Call::Recycle(k) => page.told(&[(b"(recycle ", k)]),
+        Call::Draw(k) => page.told(&[(b"(draw ", k)]),
+        Call::Accept(n) => {
+            page.labelled(b"(accept ", n.0);
+            put_fields(page, &ASM1_NAMES, &r.sludge);
+        }
     }
 }
 

@@ -6,7 +6,7 @@
 --   Composed                         a call as a line: its bytes and the whole buffer
 --   Called                           a call of the record by numbers: the columns behind it and the refusal's number
 --   CalledOut                        the same, with what the call tells or hands out
---   four_of, stripped_of             what a feed tells, and a return
+--   four_of, stripped_of, n2_told    what a feed tells, a return, and an accept
 --   number_in, told_in               the number of a refusal, or 0; the numbers that are told, or zeros
 --   SheetCalled                      a laboratory sheet, with the four numbers that it tells (unseen_of)
 --   MadeCalled                       a record made of nine figures: its columns and the refusal's number
@@ -80,6 +80,9 @@ four_of o = let t = told o.answer in t.burnt ∷ t.oxygen ∷ t.nitrate ∷ t.wa
 
 abbrev pub stripped_of : Outcome → List ℕ
 stripped_of o = (told o.answer).stripped ∷ []
+
+abbrev pub n2_told : Outcome → List ℕ
+n2_told o = (told o.answer).n2 ∷ []
 
 abbrev pub vector_of : Outcome → List ℕ
 vector_of o = o.vector

@@ -1,10 +1,10 @@
 // Calls as lines: each writes the line of a call, or of its preview where preview is not 0, and a newline. It gives how many bytes there
 // are, none under refusal 12.
-ghost use Rattle.vectors.specs.Units.{milligrams};
-ghost use Rattle.plant.specs.Calls.{receiving, feeding, settling, returning, releasing, recycling};
+ghost use Rattle.vectors.specs.Units.{milligrams, ticks};
+ghost use Rattle.plant.specs.Calls.{receiving, feeding, settling, returning, releasing, recycling, drawing, accepting};
 ghost use Rattle.host.specs.Calls.{Composed};
 
-use crate::request::{receiving, settling};
+use crate::request::{accepting, receiving, settling};
 use plant::{Call, Request};
 use reading::Asked;
 
@@ -59,6 +59,27 @@ pub extern "C" fn jilghvani_write_recycle(k: u64, preview: u64, buf: &mut [u8]) 
     ensures { Composed (recycling k) preview buf.old result buf.new }
 {
     written(Request::from(Call::Recycle(k)), preview, buf)
+}
+
+// A draw.
+#[unsafe(no_mangle)]
+pub extern "C" fn jilghvani_write_draw(k: u64, preview: u64, buf: &mut [u8]) -> usize
+    ensures { Composed (drawing k) preview buf.old result buf.new }
+{
+    written(Request::from(Call::Draw(k)), preview, buf)
+}
+
+// An accept.
+#[unsafe(no_mangle)]
+pub extern "C" fn jilghvani_write_accept(
+    v: &[u64; 13],
+    n: u64,
+    preview: u64,
+    buf: &mut [u8],
+) -> usize
+    ensures { Composed (accepting v.now (ticks n)) preview buf.old result buf.new }
+{
+    written(accepting(v, n), preview, buf)
 }
 
 // The line of a request; the preview is a number because C asks for it so.

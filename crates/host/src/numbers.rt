@@ -3,17 +3,17 @@
 // function of a request over `answer_request` was proved, and measured as slower (docs/DECISIONS.md, Speed).
 ghost use Rattle.std.specs.Prelude.{◌≡◌, Ok};
 ghost use Rattle.vectors.specs.Figures.{house};
-ghost use Rattle.vectors.specs.Units.{milligrams};
+ghost use Rattle.vectors.specs.Units.{milligrams, ticks};
 ghost use Rattle.plant.specs.Answer.{told};
 ghost use Rattle.plant.specs.Record.{fresh_plant};
-ghost use Rattle.plant.specs.Calls.{receiving, feeding, settling, returning, releasing, recycling, step};
+ghost use Rattle.plant.specs.Calls.{receiving, feeding, settling, returning, releasing, recycling, drawing, accepting, step};
 ghost use Rattle.host.specs.Record.{plant_at, columns_at};
-ghost use Rattle.host.specs.Calls.{Called, CalledOut, four_of, stripped_of, vector_of, MadeCalled, totals_of, TotalsCalled};
+ghost use Rattle.host.specs.Calls.{Called, CalledOut, four_of, stripped_of, vector_of, n2_told, MadeCalled, totals_of, TotalsCalled};
 
 use crate::record::{plant_at, put_plant};
 use crate::told::tell;
 use plant::Outcome;
-use vectors::{Figures, Milligrams};
+use vectors::{Figures, Milligrams, Ticks};
 
 // A fresh record of the house set.
 #[unsafe(no_mangle)]
@@ -82,14 +82,50 @@ pub extern "C" fn jilghvani_return(columns: &mut [u64; 61], k: u64, told: &mut [
 pub extern "C" fn jilghvani_release(columns: &mut [u64; 61], k: u64, v: &mut [u64; 13]) -> u64
     ensures { CalledOut columns.old (releasing k) vector_of result columns.new v.new }
 {
+    let o = plant::release(plant_at(columns), k);
+    hand_out(columns, o, v)
+}
+
+// Draw: the same, to the host of a side-stream reactor.
+#[unsafe(no_mangle)]
+pub extern "C" fn jilghvani_draw(columns: &mut [u64; 61], k: u64, v: &mut [u64; 13]) -> u64
+    ensures { CalledOut columns.old (drawing k) vector_of result columns.new v.new }
+{
+    let o = plant::draw(plant_at(columns), k);
+    hand_out(columns, o, v)
+}
+
+// The record and the vector of an outcome, and the refusal's number.
+fn hand_out(columns: &mut [u64; 61], o: Outcome, v: &mut [u64; 13]) -> u64
+    ensures record { columns.new ≡ columns_at o.plant }
+    ensures vector { v.new ≡ o.vector }
+    ensures refusal { result ≡ (told o.answer).number }
+{
     let Outcome {
         answer,
         vector,
         plant,
-    } = plant::release(plant_at(columns), k);
+    } = o;
     put_plant(columns, plant);
     *v = vector;
     plant::refusal_of(answer)
+}
+
+// Accept: the N2 is told, zero where it does not tell it.
+#[unsafe(no_mangle)]
+pub extern "C" fn jilghvani_accept(
+    columns: &mut [u64; 61],
+    v: &[u64; 13],
+    n: u64,
+    told: &mut [u64; 1],
+) -> u64
+    ensures { CalledOut columns.old (accepting v.now (ticks n)) n2_told result columns.new told.new }
+{
+    let o = plant::accept(plant_at(columns), *v, Ticks(n));
+    put_plant(columns, o.plant);
+    let t = plant::told_of(o.answer);
+    *told = [t.n2];
+    t.number
 }
 
 // Recycle.

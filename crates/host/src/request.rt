@@ -1,10 +1,10 @@
-// The requests of the two calls that take a vector, as functions, since Request is plant's type; `Request::from` makes the others.
+// The requests of the three calls that take a vector, as functions, since Request is plant's type; `Request::from` makes the others.
 ghost use Rattle.std.specs.Prelude.{◌≡◌};
-ghost use Rattle.vectors.specs.Units.{milligrams};
-ghost use Rattle.plant.specs.Calls.{receiving, settling};
+ghost use Rattle.vectors.specs.Units.{milligrams, ticks};
+ghost use Rattle.plant.specs.Calls.{receiving, settling, accepting};
 
 use plant::{Call, Request};
-use vectors::Milligrams;
+use vectors::{Milligrams, Ticks};
 
 // A receive.
 pub fn receiving(v: &[u64; 13]) -> Request
@@ -23,5 +23,15 @@ pub fn settling(gas: u64, d: &[u64; 26]) -> Request
     Request {
         digester: *d,
         ..Request::from(Call::Settle(Milligrams(gas)))
+    }
+}
+
+// An accept.
+pub fn accepting(v: &[u64; 13], n: u64) -> Request
+    ensures { result ≡ accepting v.now (ticks n) }
+{
+    Request {
+        sludge: *v,
+        ..Request::from(Call::Accept(Ticks(n)))
     }
 }

@@ -2,7 +2,7 @@
 -- that are no permitted set are refused with 15 (document 02, E7) and a vector above its ceilings with 3, before the conversion's own
 -- refusals; a column of the result may be above its ceiling, which is the record's business (refusal 10).
 --
---   asm_to_adm    ASM1 to digester: 15, 3, then 4 and 6
+--   asm_to_adm    ASM1 to digester: 15, 3, then 4
 --   adm_to_asm    digester to ASM1: 15, 3, then 5
 use Rattle.std.specs.Prelude.{cond, Result, Err, List, ℕ}
 use Rattle.refusals.specs.declared.Refusal.{Refusal}

@@ -10,7 +10,7 @@ use vectors::Figures;
 
 // Two functions of three lines: one for both would take the conversion as a closure, and be no plainer.
 
-// ASM1 to digester. Refusals 15, 3, 4 and 6.
+// ASM1 to digester. Refusals 15, 3 and 4.
 pub fn asm_to_adm(f: Figures, v: [u64; 13]) -> Result<Fed, Refusal>
     ensures { result ≡ asm_to_adm f v }
 {

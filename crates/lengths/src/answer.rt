@@ -1,15 +1,17 @@
 // The length of an answer, and of the held line, without their newline.
-ghost use Rattle.std.specs.Prelude.{◌≡◌, ◌≤◌, length};
+ghost use Rattle.std.specs.Prelude.{true, ◌≡◌, ◌≤◌, length};
 ghost use Rattle.refusals.specs.Refusal.{number};
 ghost use Rattle.reading.specs.Number.{decimal};
-ghost use Rattle.writing.specs.Answer.{refused_text, released_text, answer_text, held_text};
+ghost use Rattle.reading.specs.declared.names.Vector.TheVariants.{Sludge};
+ghost use Rattle.reading.specs.Names.{names_of};
+ghost use Rattle.writing.specs.Answer.{columns_text, refused_text, answer_text, held_text};
 
 use holding::HeldTotals;
 use plant::Answer;
 use reading::{ASM1_NAMES, find_byte};
 use refusals::Refusal;
 
-// How many bytes an answer has, with the vector of a release. What stands beside the digits are the labels' lengths, as in writing.
+// How many bytes an answer has, with the vector that is handed out. What stands beside the digits are the labels' lengths, as in writing.
 pub fn answer_length(a: Answer, v: [u64; 13]) -> usize
     ensures exact { result ≡ length (answer_text a v) }
     ensures at_most { result ≤ 512 }
@@ -25,8 +27,10 @@ pub fn answer_length(a: Answer, v: [u64; 13]) -> usize
         } => 39 + digits(burnt.0) + digits(oxygen.0) + digits(nitrate.0) + digits(warn),
         Answer::Settled => 11,
         Answer::Returned { stripped } => 21 + digits(stripped.0),
-        Answer::Released => released_length(v),
+        Answer::Released => 12 + columns_length(v),
         Answer::Recycled => 12,
+        Answer::Drawn => 9 + columns_length(v),
+        Answer::Accepted { n2 } => 15 + digits(n2.0),
     }
 }
 
@@ -49,12 +53,12 @@ fn refused_length(r: Refusal) -> usize
     5 + digits(r.number())
 }
 
-// A release with its vector: each column has two brackets and two spaces, its name and its digits.
-fn released_length(v: [u64; 13]) -> usize
-    ensures exact { result ≡ length (released_text v) }
-    ensures at_most { result ≤ 376 }
+// The columns of a vector: each has two brackets and two spaces, its name and its digits.
+fn columns_length(v: [u64; 13]) -> usize
+    ensures exact { result ≡ length (columns_text true (names_of Sludge) v) }
+    ensures at_most { result ≤ 364 }
 {
-    let mut n = 12;
+    let mut n = 0;
     for c in 0..13 {
         n += 4 + find_byte(&ASM1_NAMES[c], 0, b' ') + digits(v[c]);
     }

@@ -32,7 +32,8 @@ use Rattle.refusals.specs.declared.Refusal.TheVariants.{NoForm}
 use Rattle.std.specs.Prelude.{Result, Ok}
 use Rattle.holding.specs.declared.holding.HeldTotals.{HeldTotals}
 use Rattle.holding.specs.Held.{held_of}
-use Rattle.balances.specs.Balance.{Entry, entry, received, released, burnt, gas, stripped, oxygen_reduced, nitrate_reduced}
+use Rattle.balances.specs.Balance.{Entry, entry, received, received_nitrate, released, burnt, gas, stripped, oxygen_reduced}
+use Rattle.balances.specs.Balance.{nitrate_reduced, n2}
 use Rattle.reading.specs.declared.form.Asked.{Asked}
 use Rattle.reading.specs.Text.{newline, one_line}
 use Rattle.reading.specs.Line.{is_previewed, read_line, preview_text}
@@ -174,7 +175,7 @@ pub record FileBalanced (f : Figures) (es : List Entry) (line : Result HeldTotal
   pub cod : received f es asm1_cod ≡ held.cod.0 + released f es asm1_cod + burnt f es + gas f es + stripped f es
   pub tkn : received f es (asm1_tkn f) ≡ held.tkn.0 + released f es (asm1_tkn f)
   pub oxygen : received f es asm1_oxygen ≡ held.oxygen.0 + released f es asm1_oxygen + oxygen_reduced f es
-  pub nitrate : received f es asm1_nitrate ≡ held.nitrate.0 + released f es asm1_nitrate + nitrate_reduced f es
+  pub nitrate : received_nitrate f es ≡ held.nitrate.0 + released f es asm1_nitrate + nitrate_reduced f es + n2 f es
 
 abbrev pub FileLaw : Type 0
 FileLaw = (f : Figures) → Permitted f → (s : List ℕ)

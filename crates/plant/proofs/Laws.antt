@@ -3,4 +3,5 @@ pub mod Record
 pub mod Decision
 pub mod Calls
 pub mod Within
+pub mod Nitrite
 pub mod Same

@@ -1,4 +1,5 @@
--- Answers: document 01, "The plant record and its five calls" (what each call tells) and "What the link sends away", and document 02, E1.
+-- Answers: document 01, "The plant record and its five calls" (what each call tells) and "What the link sends away", and document 02, E1
+-- and E12.
 --
 --   Answer, Outcome, Told   the enum and the structs of the code
 --   told                    the refusal's number of document 01, or 0, and the values told, by the enum's cases: a refusal tells zeros
@@ -10,22 +11,24 @@ use Rattle.refusals.specs.declared.Refusal.{Refusal}
 use Rattle.refusals.specs.Refusal.{number}
 use Rattle.plant.specs.declared.record.Plant.{Plant}
 use Rattle.plant.specs.declared.answer.Answer.{Answer}
-use Rattle.plant.specs.declared.answer.Answer.TheVariants.{Refused, Received, Fed, Settled, Returned, Released, Recycled}
+use Rattle.plant.specs.declared.answer.Answer.TheVariants.{Refused, Received, Fed, Settled, Returned, Released, Recycled, Drawn, Accepted}
 use Rattle.plant.specs.declared.answer.Outcome.{Outcome}
 use Rattle.plant.specs.declared.answer.Told.{Told}
 use Rattle.plant.specs.Record.{no_columns}
 
 abbrev pub nothing : ℕ → Told
-nothing n = record { number = n; burnt = 0; oxygen = 0; nitrate = 0; warn = 0; stripped = 0 }
+nothing n = record { number = n; burnt = 0; oxygen = 0; nitrate = 0; warn = 0; stripped = 0; n2 = 0 }
 
 abbrev pub told : Answer → Told
 told (Refused r) = nothing (number r)
 told Received = nothing 0
-told (Fed b o n w) = record { number = 0; burnt = b.0; oxygen = o.0; nitrate = n.0; warn = w; stripped = 0 }
+told (Fed b o n w) = record { number = 0; burnt = b.0; oxygen = o.0; nitrate = n.0; warn = w; stripped = 0; n2 = 0 }
 told Settled = nothing 0
-told (Returned s) = record { number = 0; burnt = 0; oxygen = 0; nitrate = 0; warn = 0; stripped = s.0 }
+told (Returned s) = record { number = 0; burnt = 0; oxygen = 0; nitrate = 0; warn = 0; stripped = s.0; n2 = 0 }
 told Released = nothing 0
 told Recycled = nothing 0
+told Drawn = nothing 0
+told (Accepted m) = record { number = 0; burnt = 0; oxygen = 0; nitrate = 0; warn = 0; stripped = 0; n2 = m.0 }
 
 -- the refusal of an answer, where it is one
 abbrev pub refused_with : Answer → Option Refusal
@@ -36,6 +39,8 @@ refused_with Settled = None
 refused_with (Returned s) = None
 refused_with Released = None
 refused_with Recycled = None
+refused_with Drawn = None
+refused_with (Accepted m) = None
 
 abbrev pub refused : Plant → Refusal → Outcome
 refused p r = record { answer = Refused r; vector = no_columns; plant = p }

@@ -1,9 +1,10 @@
--- The calls on the record: document 01, "The plant record and its five calls", and document 02, E1, E3 and E7.
+-- The calls on the record: document 01, "The plant record and its five calls", and document 02, E1, E3, E7 and E12.
 --
 --   Rule                                          what a call is: its refusals, in the order in which they are tested, and its outcome
 --                                                 where none applies
 --   receive, feed, settle, give_back, release     the calls of 01; give_back is its return
 --   recycle                                       the call of E1
+--   draw, accept                                  the calls of E12; draw and release hand out alike (handed_out)
 --   fed_tests, fed, fed_told, settled_tests, ..   parts of these
 --   ruled                                         a call's outcome, or the first refusal that applies
 --   rule_by, step_by, step                        any of them, by a request
@@ -25,12 +26,14 @@ use Rattle.vectors.specs.declared.figures.Figures.{Figures}
 use Rattle.interface.specs.declared.feed.Fed.{Fed}
 use Rattle.interface.specs.declared.returning.Returned.{Returned}
 use Rattle.vectors.specs.declared.units.Milligrams.{Milligrams}
+use Rattle.vectors.specs.declared.units.Ticks.{Ticks}
 use Rattle.vectors.specs.Columns.{asm1_ceilings, digester_ceilings, within, added}
 use Rattle.vectors.specs.Draw.{drawn, rest}
 use Rattle.vectors.specs.Totals.{digester_cod, digester_tkn, digester_oxygen, digester_nitrate}
 use Rattle.interface.specs.Feed.{feed_of}
 use Rattle.interface.specs.Return.{return_of}
 use Rattle.plant.specs.declared.record.Plant.{Plant}
+use Rattle.plant.specs.declared.answer.Answer.{Answer}
 use Rattle.plant.specs.declared.answer.Answer.TheVariants as answer
 use Rattle.plant.specs.declared.answer.Call.{Call}
 use Rattle.plant.specs.declared.answer.Call.TheVariants as call
@@ -39,6 +42,7 @@ use Rattle.plant.specs.declared.answer.Outcome.{Outcome}
 use Rattle.plant.specs.declared.answer.Told.{Told}
 use Rattle.plant.specs.Record.{no_columns, record_refusal, thousandths}
 use Rattle.plant.specs.Answer.{nothing, told, refused, outcome_of}
+use Rattle.plant.specs.Nitrite.{acceptable, with_nitrite, n2_of}
 
 -- a call's refusals, in the order in which they are tested, and its outcome where none applies
 pub record Rule : Type 0 where
@@ -79,7 +83,7 @@ fed p (Ok o) r =
 
 abbrev pub fed_told : Result Fed Refusal → Told
 fed_told (Err e) = nothing 0
-fed_told (Ok o) = record { number = 0; burnt = o.burnt.0; oxygen = o.oxygen.0; nitrate = o.nitrate.0; warn = o.warn; stripped = 0 }
+fed_told (Ok o) = record { number = 0; burnt = o.burnt.0; oxygen = o.oxygen.0; nitrate = o.nitrate.0; warn = o.warn; stripped = 0; n2 = 0 }
 
 unfoldable pub feed : Plant → ℕ → Rule
 feed p k =
@@ -125,7 +129,7 @@ returned p (Ok o) r =
 
 abbrev pub returned_told : Result Returned Refusal → Told
 returned_told (Err e) = nothing 0
-returned_told (Ok o) = record { number = 0; burnt = 0; oxygen = 0; nitrate = 0; warn = 0; stripped = o.stripped.0 }
+returned_told (Ok o) = record { number = 0; burnt = 0; oxygen = 0; nitrate = 0; warn = 0; stripped = o.stripped.0; n2 = 0 }
 
 unfoldable pub give_back : Plant → ℕ → Rule
 give_back p k =
@@ -134,18 +138,22 @@ give_back p k =
       done = returned p (return_of p.figures (drawn k p.digester)) (rest k p.digester);
     }
 
--- Release k draws from reject and hands the vector out.
-unfoldable pub release : Plant → ℕ → Rule
-release p k =
+-- k draws from reject, and the vector is handed out with the answer a.
+abbrev pub handed_out : Answer → Plant → ℕ → Rule
+handed_out a p k =
     record {
       tests = record_refusal p ∷ unless (thousandths k) NotThousandths ∷ [];
       done =
           record {
-            answer = answer.Released;
+            answer = a;
             vector = drawn k p.reject;
             plant = record { sludge = p.sludge; digester = p.digester; reject = rest k p.reject; figures = p.figures };
           };
     }
+
+-- Release k hands out to the works.
+unfoldable pub release : Plant → ℕ → Rule
+release p k = handed_out answer.Released p k
 
 -- Recycle k draws from reject and adds the draw to the sludge tank: document 02, E1.
 unfoldable pub recycle : Plant → ℕ → Rule
@@ -161,6 +169,29 @@ recycle p k =
           };
     }
 
+-- Draw k hands out to the host of a side-stream reactor: document 02, E12.
+unfoldable pub draw : Plant → ℕ → Rule
+draw p k = handed_out answer.Drawn p k
+
+-- Accept adds an ASM1 vector from that host to the sludge tank, with n ticks of nitrite: of these, three fifths join sno, and the rest is
+-- told as N2. Document 02, E12.
+unfoldable pub accept : Plant → List ℕ → Ticks → Rule
+accept p v n =
+    let w = with_nitrite v n in
+    record {
+      tests =
+          record_refusal p
+          ∷ unless (acceptable v n) ColumnAbove
+          ∷ unless (within asm1_ceilings (added p.sludge w)) TankAbove
+          ∷ [];
+      done =
+          record {
+            answer = answer.Accepted (n2_of n);
+            vector = no_columns;
+            plant = record { sludge = added p.sludge w; digester = p.digester; reject = p.reject; figures = p.figures };
+          };
+    }
+
 -- ---- any call
 
 -- a call c, with the vectors v and d that it is handed
@@ -171,6 +202,8 @@ rule_by p (call.Settle gas) v d = settle p gas d
 rule_by p (call.Return k) v d = give_back p k
 rule_by p (call.Release k) v d = release p k
 rule_by p (call.Recycle k) v d = recycle p k
+rule_by p (call.Draw k) v d = draw p k
+rule_by p (call.Accept n) v d = accept p v n
 
 -- a call's outcome, or the first refusal that applies
 unfoldable pub ruled : Rule → Result Outcome Refusal
@@ -195,7 +228,7 @@ abbrev pub refusal_for : Plant → Request → ℕ
 refusal_for p r = number_of (first (rule_by p r.call r.sludge r.digester).tests)
 
 -- what it tells where no refusal applies: a feed what its conversion burns and reduces, and warn; a return what its conversion strips;
--- the others nothing
+-- an accept the N2; the others nothing
 abbrev pub tells_by : Plant → Call → Told
 tells_by p call.Receive = nothing 0
 tells_by p (call.Feed k) = fed_told (feed_of p.figures (drawn k p.sludge))
@@ -203,6 +236,9 @@ tells_by p (call.Settle gas) = nothing 0
 tells_by p (call.Return k) = returned_told (return_of p.figures (drawn k p.digester))
 tells_by p (call.Release k) = nothing 0
 tells_by p (call.Recycle k) = nothing 0
+tells_by p (call.Draw k) = nothing 0
+tells_by p (call.Accept n) =
+    record { number = 0; burnt = 0; oxygen = 0; nitrate = 0; warn = 0; stripped = 0; n2 = (n2_of n).0 }
 
 -- the number of the first refusal that applies, with zeros; or 0, with what the call tells
 abbrev pub told_by : Option Refusal → Told → Told
@@ -247,3 +283,9 @@ releasing k = request (call.Release k)
 
 abbrev pub recycling : ℕ → Request
 recycling k = request (call.Recycle k)
+
+abbrev pub drawing : ℕ → Request
+drawing k = request (call.Draw k)
+
+abbrev pub accepting : List ℕ → Ticks → Request
+accepting v n = record { call = call.Accept n; sludge = v; digester = replicate 26 0 }

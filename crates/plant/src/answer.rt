@@ -7,7 +7,7 @@ use crate::record::Plant;
 use refusals::Refusal;
 use vectors::{Milligrams, Ticks};
 
-// A call. Feed, Return, Release and Recycle have their k, and Settle its gas COD.
+// A call. Feed, Return, Release, Recycle and Draw have their k, Settle its gas COD, and Accept its nitrite.
 #[derive(Clone, Copy)]
 pub enum Call {
     Receive,
@@ -16,10 +16,12 @@ pub enum Call {
     Return(u64),
     Release(u64),
     Recycle(u64),
+    Draw(u64),
+    Accept(Ticks),
 }
 
-// A call with the vectors that it is handed: Receive takes sludge, Settle takes digester, and the others none. The vectors stand beside the
-// enum, as document 01 asks ("Where each form goes").
+// A call with the vectors that it is handed: Receive and Accept take sludge, Settle takes digester, and the others none. The vectors stand
+// beside the enum, as document 01 asks ("Where each form goes").
 #[derive(Clone, Copy)]
 pub struct Request {
     pub call: Call,
@@ -58,10 +60,14 @@ pub enum Answer {
     },
     Released,
     Recycled,
+    Drawn,
+    Accepted {
+        n2: Ticks,
+    },
 }
 
-// The answer, the vector that a release hands out, which is zero otherwise, and the new record. The vector stands beside the answer, as
-// document 01 asks.
+// The answer, the vector that a release or a draw hands out, which is zero otherwise, and the new record. The vector stands beside the
+// answer, as document 01 asks.
 #[derive(Clone, Copy)]
 pub struct Outcome {
     pub answer: Answer,
@@ -97,6 +103,7 @@ pub struct Told {
     pub nitrate: u64,
     pub warn: u64,
     pub stripped: u64,
+    pub n2: u64,
 }
 
 // The numbers of an answer. No From: the promise says the definition's word, and `Told::from(a)` would say no more.
@@ -121,7 +128,12 @@ pub fn told_of(a: Answer) -> Told
             stripped: stripped.0,
             ..nothing_but(0)
         },
-        Answer::Received | Answer::Settled | Answer::Released | Answer::Recycled => nothing_but(0),
+        Answer::Accepted { n2 } => Told {
+            n2: n2.0,
+            ..nothing_but(0)
+        },
+        Answer::Received | Answer::Settled | Answer::Released | Answer::Recycled | Answer::Drawn =>
+            nothing_but(0),
     }
 }
 
@@ -136,6 +148,7 @@ fn nothing_but(n: u64) -> Told
         nitrate: 0,
         warn: 0,
         stripped: 0,
+        n2: 0,
     }
 }
 

@@ -1,5 +1,6 @@
-// Feed draws k thousandths of the sludge tank, converts them and adds them to the digester. Its draw, and that of return, release and
-// recycle, are two lines in each: a function for all would take the tank, its rest and the record behind it, and be longer.
+// Feed draws k thousandths of the sludge tank, converts them and adds them to the digester. Its draw, and that of return, of release
+// and draw, and of recycle, are two lines in each: a function for all would take the tank, its rest and the record behind it, and be
+// longer.
 ghost use Rattle.std.specs.Prelude.{◌≡◌};
 ghost use Rattle.plant.specs.Answer.{told};
 ghost use Rattle.plant.specs.Calls.{step, told_for, ruled, feeding, feed};

@@ -5,7 +5,7 @@
 use Rattle.std.specs.Prelude.{true, false, Option, List, [], ◌∷◌, ◌≡◌, ℕ, replicate}
 use Prim.Native.String.{String}
 use Rattle.interface.specs.Plants.{Named, ◌is◌, asm1_named, digester_named}
-use Rattle.vectors.specs.Units.{milligrams}
+use Rattle.vectors.specs.Units.{milligrams, ticks}
 use Rattle.plant.specs.declared.answer.Call.TheVariants as call
 use Rattle.reading.specs.declared.form.Asked.{Asked}
 use Rattle.reading.specs.Text.{ascii}
@@ -26,6 +26,9 @@ receiving ns = line_of call.Receive false (asm1_named ns) (replicate 26 0)
 abbrev pub settling : ℕ → List Named → Option Asked
 settling g ns = line_of (call.Settle (milligrams g)) false (replicate 13 0) (digester_named ns)
 
+abbrev pub accepting : ℕ → List Named → Option Asked
+accepting n ns = line_of (call.Accept (ticks n)) false (asm1_named ns) (replicate 26 0)
+
 abbrev pub feeding : ℕ → Option Asked
 feeding k = bare (call.Feed k) false
 
@@ -43,6 +46,18 @@ examples =
     ∷ ("(recycle 01)" asks no_form)
     ∷ ("(recycle 1 (ss 1))" asks no_form)
     ∷ ("(recycled 1)" asks no_form)
+    -- draws and accepts
+    ∷ ("(draw 1)" asks bare (call.Draw 1) false)
+    ∷ ("(draw 1 (ss 1))" asks no_form)
+    ∷ ("(accept 0)" asks accepting 0 [])
+    ∷ ("(accept 18446744073709551615 (ss 1) (sno 2))"
+    asks accepting 18_446_744_073_709_551_615 ("ss" is 1 ∷ "sno" is 2 ∷ []))
+    ∷ ("(accept 18446744073709551616)" asks no_form)
+    ∷ ("(accept (ss 1))" asks no_form)
+    ∷ ("(accept)" asks no_form)
+    ∷ ("(accept 1 (sno 2) (ss 1))" asks no_form)
+    ∷ ("(accept 1 (sin 1))" asks no_form)
+    ∷ ("(accept 1 1)" asks no_form)
     -- no field; fields in the order of the columns; reversed, two neighbours swapped, one doubled
     ∷ ("(receive)" asks receiving [])
     ∷ ("(settle 0)" asks settling 0 [])
@@ -100,6 +115,8 @@ examples =
     ∷ ("(preview (return 2))" asks bare (call.Return 2) true)
     ∷ ("(preview (release 3))" asks bare (call.Release 3) true)
     ∷ ("(preview (recycle 4))" asks bare (call.Recycle 4) true)
+    ∷ ("(preview (draw 5))" asks bare (call.Draw 5) true)
+    ∷ ("(preview (accept 6 (salk 7)))" asks line_of (call.Accept (ticks 6)) true (asm1_named ("salk" is 7 ∷ [])) (replicate 26 0))
     ∷ ("(preview (receive (ss 1) (xs 2)))"
     asks line_of call.Receive true (asm1_named ("ss" is 1 ∷ "xs" is 2 ∷ [])) (replicate 26 0))
     ∷ ("(preview (settle 7 (cn 2)))"

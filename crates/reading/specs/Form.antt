@@ -6,14 +6,17 @@
 --   in_order       their columns rise: document 02, E2
 --   read_fields    fields in that order
 --   field_from     a field where its column is n or behind it
---   number_words   the words of the forms with a number alone: (feed N), (return N), (release N), and (recycle N) of document 02, E1
---   form_by        the form of a call, inside its bracket: (receive F..), (settle N F..), or one of these
+--   numbered_by    a number, then fields
+--   number_words   the words of the forms with a number alone: (feed N), (return N), (release N), and (recycle N) and (draw N) of document
+--                  02, E1 and E12
+--   form_by        the form of a call, inside its bracket: (receive F..), (settle N F..), (accept N F..) of document 02, E12, or one of
+--                  these
 --
 -- The part inside a bracket is read by itself.
 use Rattle.std.specs.Prelude.{Bool, true, false, cond, ◌&&◌, Option, Some, None, option_and_then, List, [], ◌∷◌, ℕ, ◌+◌, leb, ltb, eqb}
 use Rattle.std.specs.Prelude.{length, drop, get_or, set, replicate}
 use Rattle.vectors.specs.Columns.{asm1, asm1_columns}
-use Rattle.vectors.specs.Units.{milligrams}
+use Rattle.vectors.specs.Units.{milligrams, ticks}
 use Rattle.plant.specs.declared.answer.Call.{Call}
 use Rattle.plant.specs.declared.answer.Call.TheVariants as call
 use Rattle.reading.specs.declared.names.Vector.TheVariants.{Sludge, Digester}
@@ -124,27 +127,33 @@ bare c b = line_of c b (replicate 13 0) (replicate 26 0)
 abbrev pub no_form : Option Asked
 no_form = None
 
+-- a call that takes an ASM1 vector, with that of the fields
+abbrev pub sludge_line : Call → Fields → Option Asked
+sludge_line c f = line_of c false (asm1_columns (asm1 f.columns)) (replicate 26 0)
+
 -- (receive F..)
 abbrev pub receive_line : Option Fields → Option Asked
-receive_line (Some f) = line_of call.Receive false (asm1_columns (asm1 f.columns)) (replicate 26 0)
+receive_line (Some f) = sludge_line call.Receive f
 receive_line None = no_form
 
 -- (settle N F..)
-abbrev pub settle_fields : ℕ → Option Fields → Option Asked
-settle_fields g (Some f) = line_of (call.Settle (milligrams g)) false (replicate 13 0) f.columns
-settle_fields g None = no_form
+abbrev pub settle_line : Option (ℕ × Fields) → Option Asked
+settle_line (Some p) = line_of (call.Settle (milligrams p.0)) false (replicate 13 0) p.1.columns
+settle_line None = no_form
 
-abbrev pub settle_line : Option ℕ → Option Fields → Option Asked
-settle_line (Some g) f = settle_fields g f
-settle_line None f = no_form
+-- (accept N F..): document 02, E12
+abbrev pub accept_line : Option (ℕ × Fields) → Option Asked
+accept_line (Some p) = sludge_line (call.Accept (ticks p.0)) p.1
+accept_line None = no_form
 
--- (feed N), (return N), (release N), and (recycle N) of document 02, E1: the words, and what each asks with its number
+-- (feed N), (return N), (release N), and (recycle N) and (draw N) of document 02, E1 and E12: the words, and what each asks with its number
 abbrev pub number_words : ℕ → List (Word (Option Asked))
 number_words k =
     "feed" means bare (call.Feed k) false
     ∷ "return" means bare (call.Return k) false
     ∷ "release" means bare (call.Release k) false
     ∷ "recycle" means bare (call.Recycle k) false
+    ∷ "draw" means bare (call.Draw k) false
     ∷ []
 
 abbrev pub call_of : List ℕ → ℕ → Option Asked
@@ -158,19 +167,25 @@ number_line w None = no_form
 abbrev pub Reader : Type 0
 Reader = List (List ℕ) → List ℕ → Option Fields
 
--- behind the word settle and its space: a number, then fields, which begin at the next space
-abbrev pub settle_part : List ℕ → List ℕ
-settle_part u = drop (length (up_to space u)) u
+-- behind a word and its space: a number, then fields, which begin at the next space
+abbrev pub fields_part : List ℕ → List ℕ
+fields_part u = drop (length (up_to space u)) u
 
-unfoldable pub settle_by : Reader → List ℕ → Option Asked
-settle_by fields u = settle_line (read_number (up_to space u)) (fields (names_of Digester) (settle_part u))
+abbrev pub paired : Option ℕ → Option Fields → Option (ℕ × Fields)
+paired (Some n) (Some f) = Some (n, f)
+paired (Some n) None = None
+paired None f = None
+
+unfoldable pub numbered_by : Reader → List (List ℕ) → List ℕ → Option (ℕ × Fields)
+numbered_by fields names u = paired (read_number (up_to space u)) (fields names (fields_part u))
 
 -- inside the bracket t: the word w up to the first space, and what stands behind it
 unfoldable pub form_of : Reader → List ℕ → List ℕ → Option Asked
 form_of fields w t =
     cond (same_bytes w (ascii "receive")) (receive_line (fields (names_of Sludge) (drop (length w) t)))
-    (cond (same_bytes w (ascii "settle")) (settle_by fields (behind space t))
-    (number_line w (read_number (behind space t))))
+    (cond (same_bytes w (ascii "settle")) (settle_line (numbered_by fields (names_of Digester) (behind space t)))
+    (cond (same_bytes w (ascii "accept")) (accept_line (numbered_by fields (names_of Sludge) (behind space t)))
+    (number_line w (read_number (behind space t)))))
 
 abbrev pub form_by : Reader → List ℕ → Option Asked
 form_by fields t = form_of fields (up_to space t) t

@@ -1,4 +1,4 @@
--- Whole lines: document 01, "Lines in brackets", and document 02, E2 and E3.
+-- Whole lines: document 01, "Lines in brackets", and document 02, E2, E3 and E12.
 --
 --   in_brackets, inner    at most 1,024 bytes with a bracket around them, and what is inside
 --   call_by               the form of a call in its brackets
@@ -20,7 +20,7 @@ use Rattle.reading.specs.declared.names.Vector.TheVariants.{Sludge, Digester}
 use Rattle.reading.specs.declared.form.Asked.{Asked}
 use Rattle.reading.specs.Text.{ascii, same_bytes, up_to, behind, space, opening, closing}
 use Rattle.reading.specs.Names.{names_of}
-use Rattle.reading.specs.Form.{any_fields, in_order, read_fields, no_form, Reader, settle_part, form_by}
+use Rattle.reading.specs.Form.{any_fields, in_order, read_fields, no_form, Reader, fields_part, form_by}
 
 -- ---- brackets
 
@@ -81,7 +81,8 @@ FieldsTest = List (List ℕ) → List ℕ → Bool
 unfoldable pub form_passes : FieldsTest → List ℕ → List ℕ → Bool
 form_passes test w t =
     cond (same_bytes w (ascii "receive")) (test (names_of Sludge) (drop (length w) t))
-    (cond (same_bytes w (ascii "settle")) (test (names_of Digester) (settle_part (behind space t))) true)
+    (cond (same_bytes w (ascii "settle")) (test (names_of Digester) (fields_part (behind space t)))
+    (cond (same_bytes w (ascii "accept")) (test (names_of Sludge) (fields_part (behind space t))) true))
 
 abbrev pub call_passes : FieldsTest → List ℕ → Bool
 call_passes test s = form_passes test (up_to space (inner s)) (inner s)

@@ -1,13 +1,14 @@
 // The form of a call.
 ghost use Rattle.std.specs.Prelude.{◌≡◌, false};
-ghost use Rattle.reading.specs.Form.{line_of, bare, call_of, receive_line, read_fields, settle_by, form_by};
+ghost use Rattle.reading.specs.Form.{line_of, bare, call_of, sludge_line, read_fields, numbered_by, form_by};
+ghost use Rattle.reading.specs.Names.{names_of};
 
 use crate::bytes::place;
 use crate::fields::{Fields, read_fields};
 use crate::names::Vector;
 use crate::number::read_number;
 use plant::{Call, Request};
-use vectors::Milligrams;
+use vectors::{Milligrams, Ticks};
 
 // What a line asks: a call with its vectors, which are zero where it has none, or only a preview of it.
 #[derive(Clone, Copy)]
@@ -25,40 +26,45 @@ pub fn read_form(t: &[u8]) -> Option<Asked>
     let rest = &t[k..];
     if w == b"receive".as_slice() {
         let f = read_fields(Vector::Sludge, rest)?;
-        return Some(receive_line(f));
+        return Some(sludge_line(Call::Receive, f));
     }
     let u = rest.strip_prefix(b" ").unwrap_or(rest);
     if w == b"settle".as_slice() {
-        return read_settle(u);
+        let (gas, f) = read_numbered(Vector::Digester, u)?;
+        return Some(call_line(Call::Settle(Milligrams(gas)), [0; 13], f.columns));
+    }
+    if w == b"accept".as_slice() {
+        let (nitrite, f) = read_numbered(Vector::Sludge, u)?;
+        return Some(sludge_line(Call::Accept(Ticks(nitrite)), f));
     }
     let n = read_number(u)?;
     call_of(w, n)
 }
 
-// The settle form behind its word and the space.
-fn read_settle(u: &[u8]) -> Option<Asked>
-    ensures { result ≡ settle_by read_fields u.now }
+// A number and the fields of a vector behind it, as they stand behind a word and its space.
+fn read_numbered(vector: Vector, u: &[u8]) -> Option<(u64, Fields)>
+    ensures { result ≡ numbered_by read_fields (names_of vector) u.now }
 {
     let k = place(u, b' ');
-    let gas = read_number(&u[..k])?;
-    let f = read_fields(Vector::Digester, &u[k..])?;
-    Some(call_line(Call::Settle(Milligrams(gas)), [0; 13], f.columns))
+    let n = read_number(&u[..k])?;
+    let f = read_fields(vector, &u[k..])?;
+    Some((n, f))
 }
 
-// The columns of an ASM1 vector, one by one: copy_from_slice and first_chunk were tried and proved, and measured
+// A call with an ASM1 vector. Its columns one by one: copy_from_slice and first_chunk were tried and proved, and measured
 // as slower (docs/DECISIONS.md, Speed).
-fn receive_line(f: Fields) -> Asked
-    ensures { Some result ≡ receive_line (Some f) }
+fn sludge_line(call: Call, f: Fields) -> Asked
+    ensures { Some result ≡ sludge_line call f }
 {
     let c = f.columns;
     let v = [
         c[0], c[1], c[2], c[3], c[4], c[5], c[6], c[7], c[8], c[9], c[10], c[11], c[12],
     ];
-    call_line(Call::Receive, v, [0; 26])
+    call_line(call, v, [0; 26])
 }
 
-// The call that the word w stands for, with its number. A match on the word was tried and is no plainer: its last arm leaves 24 goals to
-// answer by hand, one for each byte at which a word may end.
+// The call that the word w stands for, with its number. A match on the word was tried and is no plainer: its last arm left 24
+// goals to answer by hand where there were four words, one for each byte at which a word may end.
 fn call_of(w: &[u8], k: u64) -> Option<Asked>
     ensures { result ≡ call_of w.now k }
 {
@@ -73,6 +79,9 @@ fn call_of(w: &[u8], k: u64) -> Option<Asked>
     }
     if w == b"recycle".as_slice() {
         return Some(bare(Call::Recycle(k)));
+    }
+    if w == b"draw".as_slice() {
+        return Some(bare(Call::Draw(k)));
     }
     None
 }

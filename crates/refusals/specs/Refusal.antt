@@ -1,4 +1,4 @@
--- Refusals: document 01, "What the link sends away", and document 02, E6 to E10.
+-- Refusals: document 01, "What the link sends away", and document 02, E6 to E10 and E12.
 --
 --   Refusal     the enum of the code
 --   number      its number in the table
@@ -12,7 +12,7 @@ use Rattle.refusals.specs.declared.Refusal.TheVariants.{CountAbove, NotPermitted
 abbrev pub number : Refusal → ℕ
 number RecordAbove = 1  -- a column of the record is above its ceiling
 number NotThousandths = 2  -- k is not 1 to 1000
-number ColumnAbove = 3  -- a column that is received or proposed is above its ceiling
+number ColumnAbove = 3  -- a column that is received, accepted or proposed, or nitrite (E12), is above its ceiling
 number FeedShort = 4  -- inert nitrogen is short on feed
 number ReturnShort = 5  -- and on return
 -- 6 was document 01's for burnt COD above A, and is not used again: no feed burns more than A (E8; BurntLaw of interface)

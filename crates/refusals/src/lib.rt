@@ -13,7 +13,7 @@ pub enum Refusal {
     RecordAbove,
     // 2: k is not 1 to 1000.
     NotThousandths,
-    // 3: a column that is received or proposed is above its ceiling.
+    // 3: a column that is received, accepted or proposed, or nitrite, is above its ceiling.
     ColumnAbove,
     // 4: a feed is short of nitrogen for its inerts.
     FeedShort,

@@ -3,7 +3,9 @@ ghost use Rattle.std.specs.Prelude.{◌≡◌};
 ghost use Rattle.plant.specs.Answer.{told};
 ghost use Rattle.plant.specs.Calls.{step, preview_of, outcome_by, told_for};
 
-use plant::{Call, Outcome, Plant, Request, feed, give_back, receive, recycle, release, settle};
+use plant::{
+    Call, Outcome, Plant, Request, accept, draw, feed, give_back, receive, recycle, release, settle,
+};
 
 // What the request's call gives on the record.
 pub fn answer_request(plant: Plant, request: Request) -> Outcome
@@ -18,6 +20,8 @@ pub fn answer_request(plant: Plant, request: Request) -> Outcome
         Call::Return(k) => give_back(plant, k),
         Call::Release(k) => release(plant, k),
         Call::Recycle(k) => recycle(plant, k),
+        Call::Draw(k) => draw(plant, k),
+        Call::Accept(n) => accept(plant, request.sludge, n),
     }
 }
 

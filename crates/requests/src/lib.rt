@@ -1,4 +1,4 @@
-// Any of the six calls, by a request, and a preview of it.
+// Any of the eight calls, by a request, and a preview of it.
 // The calls themselves are crate plant's.
 #![tactic(auto)]
 

@@ -33,7 +33,7 @@ fn serve_word<R: Env + Input + Print + Eprint + Clock>(rt: &R) -> Result<(), Fai
             return write_all(rt, &mut writer(rt), HELP);
         }
         if is_word(rt, b"--version") {
-            return write_all(rt, &mut writer(rt), b"sludgeline 0.16.0\n");
+            return write_all(rt, &mut writer(rt), b"sludgeline 0.17.0\n");
         }
     }
     let _ = eprintln!(rt; "sludgeline: unknown argument (--help tells what there is)");
@@ -119,18 +119,18 @@ N.. is nine figures: ixb ixe nxc ni naa nbac fxi fch fli; without, the house set
 (feed N)        N thousandths of the sludge, converted, into the digester\n\
 (settle N F..)  the digester as a solver proposes it, N mg of COD as gas\n\
 (return N)      N thousandths of the digester, converted, into the reject tank\n\
-(release N)     N thousandths of the reject tank handed out\n\
+(release N)     N thousandths of reject handed out; (draw N): to a reactor\n\
 (recycle N)     N thousandths of the reject tank back into the sludge tank\n\
+(accept N F..)  an ASM1 vector with N ticks of nitrite into the sludge tank\n\
 (preview FORM)  what one of these would answer; nothing is changed\n\
 F is (name N), in the order below; a missing column is zero. COD and oxygen in\n\
 mg; sno snh snd xnd sin cn in ticks of 0.0001 mg N; salk sic in mmol.\n\
-receive: si ss xi xs xbh xba xp so sno snh snd xnd salk\n\
+receive, accept: si ss xi xs xbh xba xp so sno snh snd xnd salk\n\
 settle: si ssu saa sfa sva sbu spro sac sh2 sch4 xi xc xch xpr xli xsu xaa xfa\n\
 \x20\x20xc4 xpro xac xh2 sin sic co cn\n\
 Each line is answered (ok ..), or (no N) and nothing is changed, where\n\
-\x201, 3 a column of the record, one handed over, is above its ceiling\n\
-\x202 k is not 1 to 1000\n\
-\x204, 5 a feed, a return is short of nitrogen for its inerts\n\
+\x201 a column of the record, 3 one handed over or nitrite, is above its ceiling\n\
+\x202 k is not 1 to 1000; 4, 5 a feed, a return lacks nitrogen for its inerts\n\
 \x207, 8, 9 the proposal's COD, TKN, co or cn is not the digester's\n\
 10 a tank's column would pass its ceiling: 10^12 mg or mmol, 10^16 ticks\n\
 11 the line is no form, 12 the answer's buffer short, 15 figures not permitted\n\

@@ -97,7 +97,7 @@ fn longest(buf: &mut [u8]) {
     tell(buf, k);
 }
 
-// An answer of each kind, and a refusal with the longest number; a release hands out a vector.
+// An answer of each kind, and a refusal with the longest number; a release and a draw hand out a vector.
 fn each_kind_handed_back(buf: &mut [u8]) {
     let kinds = [
         Answer::Received,
@@ -108,12 +108,16 @@ fn each_kind_handed_back(buf: &mut [u8]) {
         },
         Answer::Released,
         Answer::Recycled,
+        Answer::Drawn,
+        Answer::Accepted {
+            n2: Ticks(4000000000000000),
+        },
         Answer::Refused(Refusal::CodOpen),
         Answer::Refused(Refusal::Other(18446744073709551615)),
     ];
     for a in kinds {
         let v = match a {
-            Answer::Released => [1, 2, 3, 4, 5, 6, 7, 8, 9, 10, 11, 12, 13],
+            Answer::Released | Answer::Drawn => [1, 2, 3, 4, 5, 6, 7, 8, 9, 10, 11, 12, 13],
             _ => [0; 13],
         };
         handed_back(buf, a, v);

@@ -28,7 +28,8 @@ impl Add for Amounts {
     }
 }
 
-// The record, what was received, and what was released, burnt, reduced, vented or stripped; and how many calls were accepted.
+// The record, what was received, and what was released or drawn, burnt, reduced, vented, stripped or told as N2; and how many calls were
+// accepted.
 #[derive(Clone, Copy)]
 pub struct Run {
     pub plant: Plant,
@@ -90,12 +91,15 @@ pub fn called(run: Run, r: Request) -> Run {
     }
 }
 
-// What an accepted receive was handed, and what was released, burnt, reduced, vented or stripped.
+// What an accepted receive or accept was handed, and what was released or drawn, burnt, reduced, vented, stripped or told as N2.
 fn moved(f: Figures, r: Request, o: Outcome) -> (Amounts, Amounts) {
     let none = Amounts::default();
     match (r.call, o.answer) {
         (_, Answer::Received) => (totals_of(f, r.sludge), none),
-        (_, Answer::Released) => (none, totals_of(f, o.vector)),
+        (_, Answer::Released | Answer::Drawn) => (none, totals_of(f, o.vector)),
+        (Call::Accept(n), Answer::Accepted { n2 }) => {
+            (totals_of(f, r.sludge) + nitrate(n.0), nitrate(n2.0))
+        }
         (
             _,
             Answer::Fed {
@@ -123,6 +127,14 @@ fn moved(f: Figures, r: Request, o: Outcome) -> (Amounts, Amounts) {
 fn cod(n: u64) -> Amounts {
     Amounts {
         cod: n,
+        ..Amounts::default()
+    }
+}
+
+// Nitrate alone.
+fn nitrate(n: u64) -> Amounts {
+    Amounts {
+        nitrate: n,
         ..Amounts::default()
     }
 }

@@ -4,6 +4,7 @@
 #![tactic(auto)]
 
 mod list;
+mod reactor;
 mod round;
 mod small;
 mod write;
@@ -12,4 +13,6 @@ fn main() {
     small::examples();
     list::balances();
     round::rounds();
+    reactor::examples();
+    reactor::rounds();
 }

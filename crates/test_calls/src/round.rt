@@ -13,7 +13,7 @@ pub fn rounds() {
 }
 
 // Sludge with every column in it, oxygen and nitrate among them.
-fn works() -> Request {
+pub fn works() -> Request {
     Request {
         sludge: [
             101, 40003, 2007, 30001, 5003, 307, 1009, 503, 7000001, 900007, 500009, 80021, 77,

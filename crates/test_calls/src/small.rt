@@ -7,24 +7,24 @@ use test_show::places::{asm1, digester};
 use vectors::Milligrams;
 
 // A ceiling, numbers above one, and the largest number.
-const COD: u64 = 1000000000000;
+pub const COD: u64 = 1000000000000;
 
-const COD_OVER: u64 = 1000000000001;
+pub const COD_OVER: u64 = 1000000000001;
 
-const TICKS_OVER: u64 = 10000000000000001;
+pub const TICKS_OVER: u64 = 10000000000000001;
 
-const MOST: u64 = 18446744073709551615;
+pub const MOST: u64 = 18446744073709551615;
 
 // A column of a tank by its place, and its value.
 #[derive(Clone, Copy)]
-enum Column {
+pub enum Column {
     Sludge(usize, u64),
     Digester(usize, u64),
     Reject(usize, u64),
 }
 
 // A row: the columns of the record that are not zero, the call, and those of the vector that is handed to it.
-type Row = (&'static [Column], Call, &'static [(usize, u64)]);
+pub type Row = (&'static [Column], Call, &'static [(usize, u64)]);
 
 static ROWS: [Row; 85] = [
     // The small examples of document 01, with the nearest accepted call beside each.
@@ -335,14 +335,15 @@ static ROWS: [Row; 85] = [
     (&[Reject(asm1::SI, MOST)], Recycle(1), &[]),
 ];
 
-// Makes each row's record, previews the call and makes it, and writes both answers and whether the record is the one handed in.
+// The rows, one by one.
 pub fn examples() {
     for row in &ROWS {
         example(*row);
     }
 }
 
-fn example(row: Row) {
+// Makes a row's record, previews the call and makes it, and writes both answers and whether the record is the one handed in.
+pub fn example(row: Row) {
     let (columns, call, vector) = row;
     let mut p = plant::fresh();
     for column in columns {

@@ -10,11 +10,13 @@ pub fn call_name(c: Call) {
         Call::Return(k) => test_show::number(b"return ", k),
         Call::Release(k) => test_show::number(b"release ", k),
         Call::Recycle(k) => test_show::number(b"recycle ", k),
+        Call::Draw(k) => test_show::number(b"draw ", k),
+        Call::Accept(n) => test_show::number(b"accept ", n.0),
     }
     test_show::text(b": ");
 }
 
-// The answer, with the columns of a released vector that are not zero.
+// The answer, with the columns of a vector that is handed out that are not zero.
 pub fn answer(o: Outcome) {
     match o.answer {
         Answer::Refused(r) => test_show::number(b"no ", r.number()),
@@ -29,6 +31,8 @@ pub fn answer(o: Outcome) {
         Answer::Returned { stripped } => test_show::number(b"ok return stripped ", stripped.0),
         Answer::Released => test_show::text(b"ok release"),
         Answer::Recycled => recycled(o.plant),
+        Answer::Drawn => test_show::text(b"ok draw"),
+        Answer::Accepted { n2 } => accepted(o.plant, n2.0),
     }
     test_show::asm1(o.vector);
 }
@@ -37,6 +41,13 @@ pub fn answer(o: Outcome) {
 fn recycled(p: Plant) {
     test_show::text(b"ok recycle, ");
     tanks(p);
+}
+
+// An accept tells the N2; what the sludge tank holds then is shown.
+fn accepted(p: Plant, n2: u64) {
+    test_show::number(b"ok accept n2 ", n2);
+    test_show::text(b", sludge ");
+    test_show::asm1(p.sludge);
 }
 
 // The columns of the sludge and reject tanks that are not zero.

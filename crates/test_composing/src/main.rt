@@ -6,7 +6,7 @@
 use plant::{Call, Request};
 use reading::Asked;
 use test_show::places::digester::{CN, SCH4, SI, SPRO, XC};
-use vectors::Milligrams;
+use vectors::{Milligrams, Ticks};
 
 // The largest number.
 const MOST: u64 = 18446744073709551615;
@@ -52,12 +52,14 @@ fn some_digester() -> [u64; 26] {
     test_show::with([0; 26], &columns)
 }
 
-// The two calls that take a vector.
+// The three calls that take a vector.
 fn with_vectors(buf: &mut [u8], sludge: [u64; 13], digester: [u64; 26]) {
     for call in [
         Call::Receive,
         Call::Settle(Milligrams(0)),
         Call::Settle(Milligrams(MOST)),
+        Call::Accept(Ticks(0)),
+        Call::Accept(Ticks(MOST)),
     ] {
         both(
             buf,
@@ -70,13 +72,14 @@ fn with_vectors(buf: &mut [u8], sludge: [u64; 13], digester: [u64; 26]) {
     }
 }
 
-// The four calls that take a number alone; the vectors beside them are not written.
+// The five calls that take a number alone; the vectors beside them are not written.
 fn numbers(buf: &mut [u8], k: u64) {
     for call in [
         Call::Feed(k),
         Call::Return(k),
         Call::Release(k),
         Call::Recycle(k),
+        Call::Draw(k),
     ] {
         both(buf, some_request(call));
     }
@@ -153,5 +156,7 @@ fn tell_call(call: Call) {
         Call::Return(k) => test_show::number(b" return ", k),
         Call::Release(k) => test_show::number(b" release ", k),
         Call::Recycle(k) => test_show::number(b" recycle ", k),
+        Call::Draw(k) => test_show::number(b" draw ", k),
+        Call::Accept(n) => test_show::number(b" accept ", n.0),
     }
 }

@@ -7,7 +7,7 @@ use vectors::Figures;
 // A session with an answer of each kind.
 pub fn calls() {
     let session =
-        b"(receive (ss 1000) (snh 90) (salk 4))\n(settle 0)\n(feed 1000)\n(release 500)\n(return 1000)\n(release 1000)\n(recycle 1000)\n";
+        b"(receive (ss 1000) (snh 90) (salk 4))\n(settle 0)\n(feed 1000)\n(release 500)\n(return 1000)\n(draw 333)\n(accept 100 (sno 20) (snh 7))\n(release 1000)\n(recycle 1000)\n";
     tell(b"calls", plant::fresh(), session);
     tell(
         b"numbers of many lengths",

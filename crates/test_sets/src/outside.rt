@@ -5,15 +5,17 @@ use plant::{Call, Outcome, Plant, Request};
 use test_show::places::asm1::SS;
 use test_show::sets;
 use test_show::sets::NAA;
-use vectors::{Figures, Milligrams};
+use vectors::{Figures, Milligrams, Ticks};
 
-const CALLS: [Call; 6] = [
+const CALLS: [Call; 8] = [
     Call::Receive,
     Call::Feed(0),
     Call::Settle(Milligrams(1)),
     Call::Return(0),
     Call::Release(0),
     Call::Recycle(0),
+    Call::Draw(0),
+    Call::Accept(Ticks(10000000000000001)),
 ];
 
 // On four records: figures outside or not, a column above or not. Each call would be refused behind these two tests, or is accepted.

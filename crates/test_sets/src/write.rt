@@ -13,7 +13,7 @@ pub fn figures(f: Figures) {
 pub fn answer(o: Outcome) {
     let t = plant::told_of(o.answer);
     test_show::number(b"  ", t.number);
-    for x in [t.burnt, t.oxygen, t.nitrate, t.warn, t.stripped] {
+    for x in [t.burnt, t.oxygen, t.nitrate, t.warn, t.stripped, t.n2] {
         test_show::number(b" ", x);
     }
 }

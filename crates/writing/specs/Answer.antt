@@ -1,8 +1,9 @@
--- Answers as text: document 01, "Lines in brackets", and document 02, E1.
+-- Answers as text: document 01, "Lines in brackets", and document 02, E1 and E12.
 --
 --   column_text, columns_text    (name N), and the columns of a vector, with or without those that are zero, each behind a space
 --   told_text                    numbers behind their labels
---   answer_text                  an answer's bytes, with the vector of a release
+--   handed_text                  a vector that is handed out, behind the beginning of its answer: a release's, or a draw's
+--   answer_text                  an answer's bytes, with that vector
 --   held_text                    the held line's bytes
 --   fitting                      no bytes where the buffer is under 512
 --   AnswerLineLaw, HeldLineLaw   neither holds a newline
@@ -10,7 +11,7 @@ use Rattle.std.specs.Prelude.{Bool, true, cond, not, ◌&&◌, List, [], ◌∷�
 use Rattle.refusals.specs.declared.Refusal.{Refusal}
 use Rattle.refusals.specs.Refusal.{number}
 use Rattle.plant.specs.declared.answer.Answer.{Answer}
-use Rattle.plant.specs.declared.answer.Answer.TheVariants.{Refused, Received, Fed, Settled, Returned, Released, Recycled}
+use Rattle.plant.specs.declared.answer.Answer.TheVariants.{Refused, Received, Fed, Settled, Returned, Released, Recycled, Drawn, Accepted}
 use Rattle.holding.specs.declared.holding.HeldTotals.{HeldTotals}
 use Rattle.reading.specs.declared.names.Vector.TheVariants.{Sludge}
 use Rattle.reading.specs.Text.{ascii, one_line}
@@ -48,8 +49,11 @@ fed_text burnt oxygen nitrate warn =
 abbrev pub returned_text : ℕ → List ℕ
 returned_text stripped = told_text ((ascii "(ok return stripped ", stripped) ∷ [])
 
-unfoldable pub released_text : List ℕ → List ℕ
-released_text v = ascii "(ok release" ++ (columns_text true (names_of Sludge) v ++ ascii ")")
+unfoldable pub handed_text : List ℕ → List ℕ → List ℕ
+handed_text head v = head ++ (columns_text true (names_of Sludge) v ++ ascii ")")
+
+abbrev pub accepted_text : ℕ → List ℕ
+accepted_text n2 = told_text ((ascii "(ok accept n2 ", n2) ∷ [])
 
 abbrev pub refused_text : ℕ → List ℕ
 refused_text n = told_text ((ascii "(no ", n) ∷ [])
@@ -60,8 +64,10 @@ answer_text Received v = ascii "(ok receive)"
 answer_text (Fed b o n w) v = fed_text b.0 o.0 n.0 w
 answer_text Settled v = ascii "(ok settle)"
 answer_text (Returned s) v = returned_text s.0
-answer_text Released v = released_text v
+answer_text Released v = handed_text (ascii "(ok release") v
 answer_text Recycled v = ascii "(ok recycle)"
+answer_text Drawn v = handed_text (ascii "(ok draw") v
+answer_text (Accepted m) v = accepted_text m.0
 
 abbrev pub totals_text : ℕ → ℕ → ℕ → ℕ → List ℕ
 totals_text cod tkn oxygen nitrate =

@@ -6,14 +6,14 @@
 --   all_short        every number that an answer tells has at most twenty digits, as every number of the code has
 --   by_number        an answer with its refusal by the number
 --   ReadBackLaw      reading what was written gives the answer back. proofs/Laws/ReadBack.antt proves it: answer-read
---   ReadColumnsLaw   and the vector of a release: columns-read
+--   ReadColumnsLaw   and the vector of a release, and of a draw: columns-read
 --   SameTextLaw      two answers that differ are written differently: answer-same
 use Rattle.std.specs.Prelude.{Bool, true, false, cond, List, [], ◌∷◌, ◌≡◌, ℕ, ◌+◌, ◌-◌, ◌*◌, ◌^◌, ◌<◌, eqb, length, drop, get_or}
 use Rattle.refusals.specs.declared.Refusal.TheVariants.{Other}
 use Rattle.refusals.specs.Refusal.{number}
 use Rattle.vectors.specs.Units.{milligrams, ticks}
 use Rattle.plant.specs.declared.answer.Answer.{Answer}
-use Rattle.plant.specs.declared.answer.Answer.TheVariants.{Refused, Received, Fed, Settled, Returned, Released, Recycled}
+use Rattle.plant.specs.declared.answer.Answer.TheVariants.{Refused, Received, Fed, Settled, Returned, Released, Recycled, Drawn, Accepted}
 use Rattle.plant.specs.Answer.{told}
 use Rattle.reading.specs.Text.{Word, ◌means◌, look_up, up_to, space, closing}
 use Rattle.reading.specs.Number.{is_digit}
@@ -33,7 +33,7 @@ numbers_in s = scan false 0 s
 abbrev pub word_in : List ℕ → List ℕ
 word_in s = up_to closing (up_to space (drop 4 s))
 
--- the words of accepted answers, and the answer with the numbers ns in its text
+-- the words of accepted answers, and the answer with the numbers ns in its text; that of accept has the 2 of n2 before its own
 abbrev pub replies : List ℕ → List (Word Answer)
 replies ns =
     "receive" means Received
@@ -42,6 +42,8 @@ replies ns =
     ∷ "return" means Returned (milligrams (get_or ns 0 0))
     ∷ "release" means Released
     ∷ "recycle" means Recycled
+    ∷ "draw" means Drawn
+    ∷ "accept" means Accepted (ticks (get_or ns 1 0))
     ∷ []
 
 -- a refusal, whose second byte is n; else by the word, and a word that is not in the table is read as a refusal too
@@ -57,7 +59,7 @@ short n = n < 10 ^ 20
 abbrev pub all_short : Answer → Type 0
 all_short a =
     let t = told a in
-    short t.number × short t.burnt × short t.oxygen × short t.nitrate × short t.warn × short t.stripped
+    short t.number × short t.burnt × short t.oxygen × short t.nitrate × short t.warn × short t.stripped × short t.n2
 
 -- an answer with its refusal by the number, which is all that a text holds of it
 abbrev pub by_number : Answer → Answer
@@ -68,12 +70,15 @@ by_number Settled = Settled
 by_number (Returned s) = Returned s
 by_number Released = Released
 by_number Recycled = Recycled
+by_number Drawn = Drawn
+by_number (Accepted m) = Accepted m
 
 abbrev pub ReadBackLaw : Type 0
 ReadBackLaw = (a : Answer) (v : List ℕ) → all_short a → read_answer (answer_text a v) ≡ by_number a
 
 abbrev pub ReadColumnsLaw : Type 0
-ReadColumnsLaw = (v : List ℕ) → length v ≡ 13 → ((k : ℕ) → short (get_or v k 0)) → numbers_in (answer_text Released v) ≡ v
+ReadColumnsLaw = (v : List ℕ) → length v ≡ 13 → ((k : ℕ) → short (get_or v k 0))
+    → (numbers_in (answer_text Released v) ≡ v) × (numbers_in (answer_text Drawn v) ≡ v)
 
 -- two answers that differ are written differently
 abbrev pub SameTextLaw : Type 0

@@ -3,7 +3,7 @@ ghost use Rattle.std.specs.Prelude.{◌≡◌, ◌+◌, ◌≤◌, length, drop}
 ghost use Rattle.writing.specs.Buffer.{Answered};
 ghost use Rattle.writing.specs.Page.{HasRoom, Wrote};
 ghost use Rattle.refusals.specs.Refusal.{number};
-ghost use Rattle.writing.specs.Answer.{released_text, refused_text, answer_text, held_text, fitting};
+ghost use Rattle.writing.specs.Answer.{handed_text, refused_text, answer_text, held_text, fitting};
 
 use crate::page::Page;
 use crate::put::split_filled;
@@ -12,7 +12,7 @@ use plant::Answer;
 use reading::ASM1_NAMES;
 use refusals::Refusal;
 
-// Writes an answer, with the vector of a release, and tells how many bytes it has; a buffer under 512 bytes is left as it is.
+// Writes an answer, with the vector that is handed out, and tells how many bytes it has; a buffer under 512 bytes is left as it is.
 // It gives 0 there and no Result: a short buffer's answer is empty, and neither this nor `write_held` could fail or may begin to.
 // Test, page, writer stand in both and in composing's `write_line`: with a closure the writer's contract would be its requires again.
 pub fn write_answer(buf: &mut [u8], a: Answer, v: [u64; 13]) -> usize
@@ -57,17 +57,19 @@ fn put_answer(page: &mut Page, a: Answer, v: [u64; 13])
         ]),
         Answer::Settled => page.put(b"(ok settle)"),
         Answer::Returned { stripped } => page.told(&[(b"(ok return stripped ", stripped.0)]),
-        Answer::Released => put_released(page, v),
+        Answer::Released => put_handed(page, b"(ok release", v),
         Answer::Recycled => page.put(b"(ok recycle)"),
+        Answer::Drawn => put_handed(page, b"(ok draw", v),
+        Answer::Accepted { n2 } => page.told(&[(b"(ok accept n2 ", n2.0)]),
     }
 }
 
-// A release with its vector.
-fn put_released(page: &mut Page, v: [u64; 13])
-    requires { HasRoom page.old 512 }
-    ensures { (Wrote page.old (released_text v) page.new) × (page.new.at ≤ page.old.at + 512) }
+// A vector that is handed out, behind the beginning of its answer.
+fn put_handed(page: &mut Page, head: &[u8], v: [u64; 13])
+    requires { (HasRoom page.old 512) × (length head.now ≤ 11) }
+    ensures { (Wrote page.old (handed_text head.now v) page.new) × (page.new.at ≤ page.old.at + 512) }
 {
-    page.put(b"(ok release");
+    page.put(head);
     page.columns(&ASM1_NAMES, &v, true);
     page.put(b")");
 }

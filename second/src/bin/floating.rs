@@ -3,7 +3,7 @@
 //! double precision, as simulators do it. For each balance it is counted how many runs
 //! do not close.
 //!
-//!     floating [--seed N] [--runs N] [--calls N] [--recycles N]
+//!     floating [--seed N] [--runs N] [--calls N] [--recycles N] [--reactor N]
 //!
 //! The double-precision link takes document 01's stages (as document 02 amends them) and
 //! house figures, with 004's real divisions where document 01 has floors, and real units: COD
@@ -219,6 +219,8 @@ impl RealPlant {
             Call::Return(k) => return self.give_back(*k as f64 / 1000.0),
             Call::Release(k) => self.release(*k as f64 / 1000.0),
             Call::Recycle(k) => self.recycle(*k as f64 / 1000.0),
+            Call::Draw(k) => self.release(*k as f64 / 1000.0),
+            Call::Accept(v, nitrite) => self.accept(&real(v), *nitrite as f64 / COUNTS[3]),
             Call::Settle(..) => unreachable!("a run settles nothing"),
         }
         true
@@ -264,6 +266,14 @@ impl RealPlant {
         add(&mut self.sludge, &drawn);
     }
 
+    /// Adds a vector and nitrite to the sludge: 0.6 of it as nitrate, and the rest goes out as N2.
+    fn accept(&mut self, v: &RealAsm1, nitrite: f64) {
+        self.receive(v);
+        self.sludge[asm1::SNO] += 0.6 * nitrite;
+        add(&mut self.received, &[0.0, 0.0, 0.0, nitrite]);
+        add(&mut self.out, &[0.0, 0.0, 0.0, 0.4 * nitrite]);
+    }
+
     /// Received less what is held and what went out, for each balance, in g.
     fn gaps(&self) -> [f64; 4] {
         let v = &self.digester;
@@ -287,6 +297,18 @@ fn exact_measures(v: &Asm1) -> [u128; 4] {
     [tables::cod_asm1(v), HOUSE.tkn_asm1(v), v[asm1::SO].into(), v[asm1::SNO].into()]
 }
 
+/// COD, TKN, oxygen and nitrate in counts that an accepted call brings in.
+fn brought_in(call: &Call) -> [u128; 4] {
+    match call {
+        Call::Receive(v) => exact_measures(v),
+        Call::Accept(v, nitrite) => {
+            let [cod, tkn, oxygen, nitrate] = exact_measures(v);
+            [cod, tkn, oxygen, nitrate + u128::from(*nitrite)]
+        }
+        _ => [0; 4],
+    }
+}
+
 /// Adds four counts to four others.
 fn add_counts(to: &mut [u128; 4], more: [u128; 4]) {
     to.iter_mut().zip(more).for_each(|(count, more)| *count += more);
@@ -308,14 +330,14 @@ impl ProvedPlant {
             Call::Return(k) => self.give_back(*k),
             Call::Release(k) => self.release(*k),
             Call::Recycle(k) => (host::jilghvani_recycle(&mut self.record, *k), [0; 4]),
+            Call::Draw(k) => self.draw(*k),
+            Call::Accept(v, nitrite) => self.accept(v, *nitrite),
             Call::Settle(..) => unreachable!("a run settles nothing"),
         };
         if refusal != 0 {
             return false;
         }
-        if let Call::Receive(v) = call {
-            add_counts(&mut self.received, exact_measures(v));
-        }
+        add_counts(&mut self.received, brought_in(call));
         add_counts(&mut self.out, out);
         self.accepted += 1;
         true
@@ -341,6 +363,20 @@ impl ProvedPlant {
         let mut v = [0; 13];
         let refusal = host::jilghvani_release(&mut self.record, k, &mut v);
         (refusal, exact_measures(&v))
+    }
+
+    /// Draws for the reactor; gives the refusal and what leaves the tanks.
+    fn draw(&mut self, k: u64) -> (u64, [u128; 4]) {
+        let mut v = [0; 13];
+        let refusal = host::jilghvani_draw(&mut self.record, k, &mut v);
+        (refusal, exact_measures(&v))
+    }
+
+    /// Accepts from the reactor; gives the refusal and what leaves as N2.
+    fn accept(&mut self, v: &Asm1, nitrite: u64) -> (u64, [u128; 4]) {
+        let mut told = [0];
+        let refusal = host::jilghvani_accept(&mut self.record, v, nitrite, &mut told);
+        (refusal, [0, 0, 0, told[0].into()])
     }
 
     /// Received less what is held and what went out, for each balance, in counts.
@@ -386,14 +422,27 @@ fn received(random: &mut Random, size: &Size) -> Asm1 {
     })
 }
 
-/// The next call of a run; so many of a hundred recycle in the place of a release.
-fn next_call(random: &mut Random, size: &Size, recycles: u64) -> Call {
-    let k = 1 + random.below(1000);
+/// How many calls of a run there are, and how many of a hundred stand in the place of a release:
+/// recycles, draws for the reactor, and as many accepts from it.
+#[derive(Clone, Copy)]
+struct Calls {
+    number: u64,
+    recycles: u64,
+    reactor: u64,
+}
+
+/// The next call of a run.
+fn next_call(random: &mut Random, size: &Size, calls: &Calls) -> Call {
+    let (k, draws) = (1 + random.below(1000), 80 + calls.recycles);
     match random.below(100) {
         0..=34 => Call::Receive(received(random, size)),
         35..=59 => Call::Feed(k),
         60..=79 => Call::Return(k),
-        number if number < 80 + recycles => Call::Recycle(k),
+        number if number < draws => Call::Recycle(k),
+        number if number < draws + calls.reactor => Call::Draw(k),
+        number if number < draws + 2 * calls.reactor => {
+            Call::Accept(received(random, size), random.below(size.ticks + 1))
+        }
         _ => Call::Release(k),
     }
 }
@@ -443,11 +492,11 @@ impl Report {
     }
 }
 
-/// Runs one plant by both links, with the same calls: so many, and so many recycles in a hundred.
-fn one_run(random: &mut Random, size: &Size, [calls, recycles]: [u64; 2], report: &mut Report) {
+/// Runs one plant by both links, with the same calls.
+fn one_run(random: &mut Random, size: &Size, calls: &Calls, report: &mut Report) {
     let (mut plant, mut proved) = (RealPlant::fresh(), ProvedPlant::fresh());
-    for _ in 0..calls {
-        let call = next_call(random, size, recycles);
+    for _ in 0..calls.number {
+        let call = next_call(random, size, calls);
         let accepted = proved.call(&call);
         report.judged_apart += u64::from(plant.call(&call) != accepted);
     }
@@ -456,12 +505,12 @@ fn one_run(random: &mut Random, size: &Size, [calls, recycles]: [u64; 2], report
 }
 
 /// The options' names.
-const OPTIONS: [&str; 4] = ["--seed", "--runs", "--calls", "--recycles"];
+const OPTIONS: [&str; 5] = ["--seed", "--runs", "--calls", "--recycles", "--reactor"];
 
-/// Reads the options: seed, runs of each size, calls of each run, recycles in a hundred calls (at
-/// most 20, and by default none).
-fn options() -> Result<[u64; 4], String> {
-    let mut options = [4, 1000, 100, 0];
+/// Reads the options: seed, runs of each size, calls of each run; and in a hundred calls recycles,
+/// and draws and as many accepts, in all at most 20 and by default none.
+fn options() -> Result<[u64; 5], String> {
+    let mut options: [u64; 5] = [4, 1000, 100, 0, 0];
     let mut words = std::env::args().skip(1);
     while let Some(word) = words.next() {
         let which = OPTIONS.iter().position(|name| *name == word);
@@ -471,24 +520,31 @@ fn options() -> Result<[u64; 4], String> {
             _ => return Err(format!("{word}: unknown, or without its number")),
         }
     }
-    match options[3] {
+    let [.., recycles, reactor] = options;
+    match recycles.saturating_add(reactor.saturating_mul(2)) {
         0..=20 => Ok(options),
-        _ => Err("--recycles: at most 20".into()),
+        _ => Err("--recycles N --reactor M: N + 2 M is at most 20".into()),
     }
 }
 
 /// Runs every size and prints its table; gives how many balances of the proved link are open.
-fn run([seed, runs, calls, recycles]: [u64; 4]) -> u64 {
-    println!("What the floating-point link loses: seed {seed}, {runs} runs of {calls} calls each");
+fn run([seed, runs, number, recycles, reactor]: [u64; 5]) -> u64 {
+    println!("What the floating-point link loses: seed {seed}, {runs} runs of {number} calls each");
     if recycles > 0 {
         println!("{recycles} of a hundred calls recycle in the place of a release");
     }
+    if reactor > 0 {
+        println!(
+            "{reactor} of a hundred calls draw and {reactor} accept in the place of a release"
+        );
+    }
+    let calls = Calls { number, recycles, reactor };
     let mut open = 0;
     for (number, size) in SIZES.iter().enumerate() {
         let mut report = Report::default();
         for run in 0..runs {
             let mut random = Random::nth(seed, run * SIZES.len() as u64 + number as u64);
-            one_run(&mut random, size, [calls, recycles], &mut report);
+            one_run(&mut random, size, &calls, &mut report);
         }
         report.print(size, runs);
         open += report.rows.iter().map(|row| row.proved_open).sum::<u64>();

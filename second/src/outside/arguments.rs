@@ -68,9 +68,9 @@ fn text_for(program: &Program, word: &str) -> Result<String, Trouble> {
 /// The words that the help must have: the forms', and the numbers of the refusals that the
 /// program gives.
 fn must_have() -> Vec<String> {
-    let forms = ["receive", "feed", "settle", "return", "release", "recycle", "preview"];
+    let calls = ["receive", "feed", "settle", "return", "release", "recycle", "draw", "accept"];
     let numbers = (1..=5).chain(7..=12).chain([15]).map(|number| number.to_string());
-    forms.map(String::from).into_iter().chain(numbers).collect()
+    calls.into_iter().chain(["preview"]).map(String::from).chain(numbers).collect()
 }
 
 /// Help: every form and refusal, and `--figures`, on one screen.

@@ -2,7 +2,7 @@
 
 use crate::plant::{Call, Plant};
 use crate::random::Random;
-use crate::tables::asm1;
+use crate::tables::{asm1, Asm1};
 use crate::trials::{form, Trial};
 use crate::{lines, session};
 use std::sync::OnceLock;
@@ -48,11 +48,11 @@ pub fn mixed_lines_on(mut plant: Plant, seed: u64, count: usize) -> Vec<u8> {
 }
 
 /// A day's sludge without inerts, so that no nitrogen is short.
-fn sludge(random: &mut Random) -> Call {
-    Call::Receive(std::array::from_fn(|column| match column {
+fn sludge(random: &mut Random) -> Asm1 {
+    std::array::from_fn(|column| match column {
         asm1::SI | asm1::XI | asm1::XP => 0,
         _ => random.below(100_000),
-    }))
+    })
 }
 
 /// So many lines that are all accepted.
@@ -60,12 +60,14 @@ pub fn steady_lines(count: usize) -> Vec<u8> {
     let mut random = Random::new(8);
     let mut bytes = Vec::new();
     for number in 0..count {
-        let call = match number % 6 {
+        let call = match number % 8 {
             2 => Call::Feed(500),
             3 => Call::Return(300),
             4 => Call::Recycle(200),
-            5 => Call::Release(700),
-            _ => sludge(&mut random),
+            5 => Call::Draw(300),
+            6 => Call::Accept(sludge(&mut random), random.below(100_000)),
+            7 => Call::Release(700),
+            _ => Call::Receive(sludge(&mut random)),
         };
         bytes.extend(form(&mut random, &call));
         bytes.push(b'\n');
@@ -109,11 +111,14 @@ pub fn right_answers(input: &[u8]) -> Vec<u8> {
 mod tests {
     use super::*;
 
-    /// Every steady line is accepted, the recycles among them.
+    /// Every steady line is accepted, the recycles, draws and accepts among them.
     #[test]
     fn steady_lines_are_accepted() {
-        let answers = String::from_utf8(right_answers(&steady_lines(6000))).expect("text");
+        let answers = String::from_utf8(right_answers(&steady_lines(8000))).expect("text");
         assert!(answers.lines().all(|answer| answer.starts_with("(ok ")));
-        assert_eq!(answers.lines().filter(|answer| *answer == "(ok recycle)").count(), 1000);
+        for begin in ["(ok recycle)", "(ok draw (si ", "(ok accept n2 "] {
+            let answers = answers.lines().filter(|answer| answer.starts_with(begin));
+            assert_eq!(answers.count(), 1000, "{begin}");
+        }
     }
 }

@@ -15,9 +15,10 @@ const WORDS: [&str; 14] = [
     "receiv", "releas e", "settle 0",
 ];
 
-/// Words near the sixth form's. They stand apart from `WORDS`, so that the benchmark's session,
-/// which `damage` has a part in, stays of the kind that it was before there was a sixth form.
-const NEAR_RECYCLE: [&str; 9] = [
+/// Words near those of the forms that came later: recycle, draw and accept. They stand apart from
+/// `WORDS`, so that the benchmark's session, which `damage` has a part in, stays of the kind that
+/// it was before there were these forms.
+const NEAR_LATER: [&str; 27] = [
     "recycle",
     "recycl",
     "recycles",
@@ -27,6 +28,24 @@ const NEAR_RECYCLE: [&str; 9] = [
     "recycle 1000",
     "re cycle",
     "receivecycle",
+    "draw",
+    "dra",
+    "draws",
+    "Draw",
+    "drawn",
+    "draw 0",
+    "draw 1000",
+    "d raw",
+    "withdraw",
+    "accept",
+    "accept 0",
+    "accept 7",
+    "accept 10000000000000001",
+    "accept 18446744073709551616",
+    "accept n2",
+    "accepts",
+    "Accept",
+    "except 0",
 ];
 
 /// Numbers that a number may be replaced by; some of them are still numbers.
@@ -199,9 +218,10 @@ fn replace_word(line: &mut Vec<u8>, word: &str) {
     replace(line, (1, end.max(1)), word.as_bytes());
 }
 
-/// Another word in front, one that is nearly `recycle`; a form of one number may become one.
-pub fn near_recycle(random: &mut Random, line: &mut Vec<u8>) {
-    replace_word(line, random.one_of(&NEAR_RECYCLE));
+/// Another word in front, one that is nearly `recycle`, `draw` or `accept`; a form of one number,
+/// or of ASM1 fields, may become one of theirs.
+pub fn near_word(random: &mut Random, line: &mut Vec<u8>) {
+    replace_word(line, random.one_of(&NEAR_LATER));
 }
 
 /// A byte changed, doubled, lost, put in or put behind; a line cut, joined or made long.
@@ -265,6 +285,8 @@ fn behind_junk(random: &mut Random) -> Vec<u8> {
         b"(receive (ss 1))",
         b"(release 1)",
         b"(recycle 1000)",
+        b"(draw 1000)",
+        b"(accept 5)",
     ]));
     line
 }

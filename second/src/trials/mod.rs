@@ -10,6 +10,7 @@
 //! - `writing`: calls to be written as lines, and the buffers lent for them;
 //! - `sheets`: laboratory sheets, and sludge tanks that they just fit or pass;
 //! - `blends`: hauled loads with their ks, and sludge tanks that they just fit or pass;
+//! - `reactor`: vectors with nitrite, and sludge tanks that they just fit or pass;
 //! - `lists`: lists of lines in one slice, with the records that they begin from;
 //! - `table`: the sheets of `exact_sheets.py` with their answers;
 //! - here: a call written as a line, and the choice of the next record, line, call, vector
@@ -24,16 +25,19 @@ pub mod lists;
 pub mod order;
 pub mod previews;
 pub mod proposals;
+pub mod reactor;
 pub mod sheets;
 pub mod table;
 pub mod writing;
 
 use crate::figures::HOUSE;
-use crate::plant::{Call, Plant};
+use crate::plant::{draw, Call, Plant};
 use crate::random::Random;
+use crate::reactor::NITRITE_CEILING;
 use crate::tables::*;
 use amounts::Scale;
 use blends::Blend;
+use reactor::Back;
 use std::collections::VecDeque;
 use std::io::Write;
 
@@ -43,6 +47,9 @@ enum Step {
     Settle,
     ReturnAll,
     Recycle(u64),
+    /// Draws for the reactor, and has what it draws accepted next.
+    ThroughReactor,
+    Accept(Asm1, u64),
     /// Receives ammonia until the digester's TKN would be this far from a multiple of ixe.
     ReceiveToMultiple(i64),
     /// Settles as much COD as inerts as the digester's TKN can return, and this many more.
@@ -76,6 +83,12 @@ pub fn form(random: &mut Random, call: &Call) -> Vec<u8> {
         Call::Return(k) => write!(line, "(return {k})"),
         Call::Release(k) => write!(line, "(release {k})"),
         Call::Recycle(k) => write!(line, "(recycle {k})"),
+        Call::Draw(k) => write!(line, "(draw {k})"),
+        Call::Accept(v, nitrite) => {
+            line.extend_from_slice(format!("(accept {nitrite}").as_bytes());
+            write_fields(random, &ASM1_NAMES, v, &mut line);
+            write!(line, ")")
+        }
     };
     written.expect("a vector takes every byte");
     line
@@ -99,6 +112,11 @@ pub fn thousandths(random: &mut Random) -> u64 {
     }
 }
 
+/// The accept of what the reactor's host hands back.
+fn accept((v, nitrite): Back) -> Call {
+    Call::Accept(v, nitrite)
+}
+
 impl Trial {
     /// A source of lines whose ordinary amounts are of one scale. They go by the house set until
     /// a record has other figures.
@@ -111,11 +129,12 @@ impl Trial {
     /// house set, of another permitted set, or now and then of figures out of bounds.
     pub fn record(&mut self) -> Plant {
         self.scale.figures = figures::any(&mut self.random);
-        let mut plant = match self.random.below(11) {
+        let mut plant = match self.random.below(12) {
             0 => Plant::fresh(self.scale.figures),
             1 => amounts::record_above(&mut self.random, &self.scale),
             2..=4 => edges::record_at_edge(&mut self.random, &self.scale),
             5 => self.record_to_recycle(),
+            6 => self.record_to_accept(),
             _ => amounts::record(&mut self.random, &self.scale),
         };
         if self.random.percent(4) {
@@ -149,6 +168,22 @@ impl Trial {
         plant
     }
 
+    /// A record with a sludge tank that the accept asked for next just fits, or passes; now and
+    /// then a record above a ceiling, or a vector or nitrite above its own.
+    fn record_to_accept(&mut self) -> Plant {
+        let (random, scale) = (&mut self.random, &self.scale);
+        let within = amounts::record_within(random, scale);
+        let ((mut v, mut nitrite), mut plant) = reactor::at_the_ceilings(random, scale, &within);
+        match random.below(10) {
+            0 => amounts::put_above(random, &mut plant.reject, &ASM1_CEILINGS),
+            1 => amounts::put_above(random, &mut v, &ASM1_CEILINGS),
+            2 => nitrite = amounts::above(random, NITRITE_CEILING),
+            _ => {}
+        }
+        self.steps.push_front(Step::Accept(v, nitrite));
+        plant
+    }
+
     /// The next line for this record, without its newline. In twenty, two come behind their own
     /// preview, one as its preview alone, and one as nearly a preview.
     pub fn line(&mut self, plant: &Plant) -> Vec<u8> {
@@ -177,7 +212,7 @@ impl Trial {
         }
         match self.random.below(100) {
             0..=14 => damage::damage(&mut self.random, &mut line),
-            15 => damage::near_recycle(&mut self.random, &mut line),
+            15 | 16 => damage::near_word(&mut self.random, &mut line),
             _ => {}
         }
         line
@@ -192,6 +227,8 @@ impl Trial {
             Some(Step::Settle) => proposals::settle(&mut self.random, figures, &plant.digester),
             Some(Step::ReturnAll) => Call::Return(1000),
             Some(Step::Recycle(k)) => Call::Recycle(k),
+            Some(Step::ThroughReactor) => self.through_reactor(plant),
+            Some(Step::Accept(v, nitrite)) => Call::Accept(v, nitrite),
             Some(Step::ReceiveToMultiple(off)) => {
                 Call::Receive(edges::ammonia_to_multiple(figures, &plant.digester, off))
             }
@@ -256,10 +293,17 @@ impl Trial {
         blends::at_the_ceilings(&mut self.random, &self.scale, plant)
     }
 
+    /// What the reactor's host hands back, not turned away for itself, and this record with a
+    /// sludge tank that it just fits or passes.
+    pub fn accept_at_the_ceilings(&mut self, plant: &Plant) -> (Back, Plant) {
+        self.follow(plant);
+        reactor::at_the_ceilings(&mut self.random, &self.scale, plant)
+    }
+
     /// A call that no step before it asks for.
     fn free_call(&mut self, plant: &Plant) -> Call {
         let random = &mut self.random;
-        match random.below(100) {
+        match random.below(112) {
             0..=23 => Call::Receive(amounts::asm1(random, &self.scale)),
             24..=37 => {
                 self.steps.push_back(Step::FeedAll);
@@ -272,7 +316,11 @@ impl Trial {
             91..=96 if random.percent(5) => self.recycle_edge(plant),
             91..=96 => Call::Recycle(thousandths(random)),
             97 => self.same_water(),
-            _ => self.return_edge(),
+            98 | 99 => self.return_edge(),
+            100..=103 => Call::Draw(thousandths(random)),
+            104 | 105 => self.through_reactor(plant),
+            _ if random.percent(5) => self.accept_edge(plant),
+            _ => accept(reactor::back(random, &self.scale)),
         }
     }
 
@@ -286,11 +334,37 @@ impl Trial {
         Call::Receive(edges::receive_before_recycle(&mut self.random, plant, k))
     }
 
-    /// Starts the steps that feed, settle, return and recycle the same water several times.
+    /// Draws for the reactor; what is drawn comes back next, where the record gives some.
+    fn through_reactor(&mut self, plant: &Plant) -> Call {
+        let k = edges::drawable(&mut self.random);
+        if plant.test_record().is_ok() {
+            let drawn = draw(&plant.reject, k);
+            let (v, nitrite) = reactor::treated(&mut self.random, &drawn);
+            self.steps.push_front(Step::Accept(v, nitrite));
+        }
+        Call::Draw(k)
+    }
+
+    /// Receives what lets the accept behind it just fit the sludge's nitrate, or pass it.
+    fn accept_edge(&mut self, plant: &Plant) -> Call {
+        let back = reactor::fair(&mut self.random, &self.scale);
+        if plant.test_record().is_err() {
+            return accept(back);
+        }
+        self.steps.push_back(Step::Accept(back.0, back.1));
+        Call::Receive(reactor::receive_before(&mut self.random, &plant.sludge, &back))
+    }
+
+    /// Starts the steps that feed, settle, return and recycle the same water several times; some of
+    /// it goes through the reactor now and then.
     fn same_water(&mut self) -> Call {
         for _ in 0..self.random.one_of(&[2, 3, 5]) {
             let k = thousandths(&mut self.random);
-            self.steps.extend([Step::FeedAll, Step::Settle, Step::ReturnAll, Step::Recycle(k)]);
+            self.steps.extend([Step::FeedAll, Step::Settle, Step::ReturnAll]);
+            if self.random.percent(40) {
+                self.steps.push_back(Step::ThroughReactor);
+            }
+            self.steps.push_back(Step::Recycle(k));
         }
         Call::Receive(amounts::asm1(&mut self.random, &self.scale))
     }

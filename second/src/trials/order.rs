@@ -71,7 +71,7 @@ pub fn is_out_of_order(line: &[u8]) -> bool {
     let Some((head, mut fields)) = cut(form).filter(|_| lines::read(form).is_none()) else {
         return false;
     };
-    let names: &[&str] = if head.starts_with(b"(receive") { &ASM1_NAMES } else { &DIGESTER_NAMES };
+    let names: &[&str] = if head.starts_with(b"(settle ") { &DIGESTER_NAMES } else { &ASM1_NAMES };
     fields.sort_by_key(|field| column(names, field));
     fields.dedup_by_key(|field| column(names, field));
     matches!(lines::read(&joined(head, &fields)), Some(Asked::Call(_)))
@@ -91,8 +91,11 @@ mod tests {
             "(receive (xs 1) (ss 2))",
             "(receive (ss 1) (ss 2))",
             "(settle 0 (xi 1) (sac 2))",
+            "(accept 5 (xs 1) (ss 2))",
+            "(accept 5 (ss 1) (ss 2))",
             "(preview (receive (xs 1) (ss 2)))",
             "(preview (settle 0 (xi 1) (sac 2)))",
+            "(preview (accept 0 (salk 1) (si 2)))",
         ];
         assert!(out.iter().all(|line| is_out_of_order(line.as_bytes())));
         let not = [
@@ -105,6 +108,9 @@ mod tests {
             "(receive (xs 1) (ss 02))",
             "(receive (xs 1) (sac 2))",
             "(settle (xi 1) (sac 2))",
+            "(accept 5 (ss 1) (xs 2))",
+            "(accept 5 (xi 1) (sac 2))",
+            "(accept (xs 1) (ss 2))",
             "(feed (xi 1) (sac 2))",
             "(preview (receive (ss 1) (xs 2)))",
             "(preview (receive (xs 1) (ss 02)))",
@@ -119,16 +125,16 @@ mod tests {
     #[test]
     fn disorder_breaks_the_order() {
         let mut random = Random::new(12);
-        for form in ["(receive (ss 1) (xs 2))", "(settle 7 (sac 1) (xi 2) (sin 3) (cn 4))"] {
+        let settle = "(settle 7 (sac 1) (xi 2) (sin 3) (cn 4))";
+        for form in ["(receive (ss 1) (xs 2))", settle, "(accept 7 (ss 1) (xs 2) (snh 3))"] {
             for _ in 0..1000 {
                 let mut line = form.as_bytes().to_vec();
                 assert!(disorder(&mut random, &mut line));
                 assert!(is_out_of_order(&line), "{}", line.escape_ascii());
             }
         }
-        for form in
-            ["(receive)", "(receive (ss 1))", "(settle 7)", "(settle 7 (sin 1))", "(feed 1)"]
-        {
+        let few = ["(receive)", "(receive (ss 1))", "(settle 7)", "(settle 7 (sin 1))"];
+        for form in few.into_iter().chain(["(accept 7)", "(accept 7 (ss 1))", "(feed 1)"]) {
             let mut line = form.as_bytes().to_vec();
             assert!(!disorder(&mut random, &mut line));
             assert_eq!(line, form.as_bytes());

@@ -91,13 +91,15 @@ mod tests {
     use crate::trials::Trial;
 
     /// A form of each call.
-    const FORMS: [&str; 6] = [
+    const FORMS: [&str; 8] = [
         "(receive (ss 1) (xs 2))",
         "(feed 1000)",
         "(settle 7 (sac 1) (xi 2))",
         "(return 1000)",
         "(release 1)",
         "(recycle 500)",
+        "(draw 20)",
+        "(accept 5 (ss 1) (sno 2))",
     ];
 
     /// Whether a line is a form.

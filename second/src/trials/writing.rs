@@ -16,13 +16,15 @@ const PREVIEWS: [u64; 9] = [1, 1, 1, 2, 10, 256, 1 << 32, 1 << 63, u64::MAX];
 
 /// A call to be written; most often one with a vector.
 pub fn call(random: &mut Random) -> Call {
-    match random.below(12) {
+    match random.below(17) {
         0..=3 => Call::Receive(vector(random, &ASM1_CEILINGS)),
         4..=7 => Call::Settle(number(random), vector(random, &DIGESTER_CEILINGS)),
         8 => Call::Feed(number(random)),
         9 => Call::Return(number(random)),
         10 => Call::Release(number(random)),
-        _ => Call::Recycle(number(random)),
+        11 => Call::Recycle(number(random)),
+        12 => Call::Draw(number(random)),
+        _ => Call::Accept(vector(random, &ASM1_CEILINGS), number(random)),
     }
 }
 
@@ -95,7 +97,7 @@ mod tests {
     /// How often a call was one of each kind, and its vector and number of each kind.
     #[derive(Default, Debug)]
     struct Met {
-        calls: [u32; 6],
+        calls: [u32; 8],
         no_column: u32,
         all_greatest: u32,
         one_column: u32,
@@ -115,6 +117,8 @@ mod tests {
                 Call::Return(k) => (3, Some(*k), &[]),
                 Call::Release(k) => (4, Some(*k), &[]),
                 Call::Recycle(k) => (5, Some(*k), &[]),
+                Call::Draw(k) => (6, Some(*k), &[]),
+                Call::Accept(v, nitrite) => (7, Some(*nitrite), v),
             };
             self.calls[place] += 1;
             self.own_zero += u32::from(own == Some(0));

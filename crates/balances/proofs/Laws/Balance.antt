@@ -1,13 +1,16 @@
 -- The balances over any list of calls, previews, sheets and blends. Assumes nothing.
 --
---   Quantity           what a balance is about: a total of each vector, and what a call lets go of it
+--   Quantity           what a balance is about: a total of each vector, what nitrite counts for beside it, and what a call lets go of it
 --   Kept               one call keeps a quantity
 --   fed-kept, ..       what becomes of a conversion does
+--   handed-out         what is handed out leaves reject, to whomever it goes
 --   done-kept          each call does where no refusal applies
 --   step_kept          any call does
 --   receive-kept       what is a receive or nothing, as a sheet and a blend are, does
 --   over               so does every list of them and of previews
 --   cod-quantity, ..   the four quantities
+--   both-sums          sums of two numbers over a list are the two sums
+--   received-alone     what is received, where no nitrite counts beside it
 --   balance            BalanceLaw
 --   figures-stay       StayLaw
 --   recycle-holds      RecycleLaw
@@ -44,7 +47,7 @@ use Rattle.vectors.proofs.Laws.Totals.{total-laws}
 use Rattle.interface.proofs.Laws.Feed.{feed-keeps}
 use Rattle.interface.proofs.Laws.Return.{return-keeps}
 use Rattle.plant.specs.declared.record.Plant.{Plant}
-use Rattle.plant.specs.declared.answer.Answer.TheVariants.{Fed, Returned}
+use Rattle.plant.specs.declared.answer.Answer.TheVariants.{Fed, Returned, Accepted}
 use Rattle.plant.specs.declared.answer.Call.{Call}
 use Rattle.plant.specs.declared.answer.Call.TheVariants as call
 use Rattle.plant.specs.declared.answer.Request.{Request}
@@ -52,39 +55,47 @@ use Rattle.plant.specs.declared.answer.Outcome.{Outcome}
 use Rattle.plant.specs.declared.answer.Told.{Told}
 use Rattle.plant.specs.Record.{no_columns, fresh_plant, record_refusal, thousandths}
 use Rattle.plant.specs.Answer.{nothing, told, refused}
-use Rattle.plant.specs.Calls.{receive, feed, settle, give_back, release, recycle, rule_by, ruled, step_by, step, preview_of}
+use Rattle.plant.specs.Calls.{receive, feed, settle, give_back, release, recycle, draw, accept}
+use Rattle.plant.specs.Calls.{rule_by, ruled, step_by, step, preview_of}
 use Rattle.plant.specs.Calls.{fed_tests, fed, returned_tests, returned}
 use Rattle.plant.specs.Calls.{receiving, recycling}
 use Rattle.plant.proofs.Laws.Record.{usable-permitted, thousandths-le}
 use Rattle.plant.proofs.Laws.Calls.{settle-passed, figures-kept}
 use Rattle.plant.proofs.Laws.Decision.{decide-case, passed-by, draw-passed}
+use Rattle.plant.specs.Nitrite.{with_nitrite, n2_of}
+use Rattle.plant.proofs.Laws.Nitrite.{with-nitrite-adds}
+use Rattle.vectors.specs.declared.units.Ticks.{Ticks}
 use Rattle.sheets.specs.Sheet.{refusal_in, counts_of, sheet_step}
 use Rattle.sheets.proofs.Laws.Sheet.{sheet-plant, sheet-figures}
 use Rattle.blends.specs.Blend.{loads_of, draws, blend_tests, blend_step}
 use Rattle.blends.proofs.Laws.Draws.{blend-plant, blend-figures}
 use Rattle.balances.specs.Balance.{Entry, calls, previews, sheets, blends, after, receive_adds, sheet_adds, blend_adds, sum_over}
 use Rattle.balances.specs.Balance.{without_previews, received_or, sheets_as_calls, blends_as_calls}
-use Rattle.balances.specs.Balance.{counts, if_accepted, received_by, released_by, gas_by, BalanceLaw, StayLaw, RecycleLaw, SkipLaw}
-use Rattle.balances.specs.Balance.{SheetLaw, BlendLaw, Moved, MovesLaw}
+use Rattle.balances.specs.Balance.{counts, if_accepted, received_by, released_by, gas_by, nitrite_by}
+use Rattle.balances.specs.Balance.{BalanceLaw, StayLaw, RecycleLaw, SkipLaw, SheetLaw, BlendLaw, Moved, MovesLaw}
 
 -- ---- quantities
 
--- a balance is about a total of each vector, by a set of figures, and what a call lets go of it, by what it tells and the gas COD that it
--- is handed
+-- a balance is about a total of each vector, by a set of figures, what nitrite counts for beside a vector, and what a call lets go of it,
+-- by what it tells and the gas COD that it is handed
 record Quantity : Type 0 where
   asm1 : Figures → List ℕ → ℕ
   digester : Figures → List ℕ → ℕ
+  nitrite : ℕ → ℕ
   lost : Told → ℕ → ℕ
   asm1-linear : (f : Figures) → Linear (asm1 f)
   digester-linear : (f : Figures) → Linear (digester f)
   -- a call that tells no value and is handed no gas, refused or not, lets nothing go
   silent : (n : ℕ) → lost (nothing n) 0 ≡ 0
+  no-nitrite : nitrite 0 ≡ 0
   feeds : (f : Figures) → Permitted f → (c : List ℕ) (o : in_feed.Fed) → feed_of f c ≡ Ok o
       → asm1 f c ≡ digester f o.vector + lost (told (Fed o.burnt o.oxygen o.nitrate o.warn)) 0
   settles : (f : Figures) (g : ℕ) (a d : List ℕ) → digester_cod a ≡ digester_cod d + g → digester_tkn f a ≡ digester_tkn f d
       → digester_oxygen a ≡ digester_oxygen d → digester_nitrate a ≡ digester_nitrate d → digester f a ≡ digester f d + lost (nothing 0) g
   returns : (f : Figures) (c : List ℕ) (o : in_return.Returned) → return_of f c ≡ Ok o
       → digester f c ≡ asm1 f o.vector + lost (told (Returned o.stripped)) 0
+  accepts : (f : Figures) (v : List ℕ) (n : Ticks)
+      → asm1 f v + nitrite n.0 ≡ asm1 f (with_nitrite v n) + lost (told (Accepted (n2_of n))) 0
 
 -- the tests of a draw passed: the figures are a permitted set, and k is one of thousandths
 at-draw : (p : Plant) (k : ℕ) (ts : List (Option Refusal))
@@ -101,13 +112,13 @@ module _ (q : Quantity) where
   -- the call c, handed v, with the outcome o
   abbrev Kept : Plant → Call → List ℕ → Outcome → Type 0
   Kept p c v o =
-      in_tanks p + if_accepted o (cond (counts c).received (q.asm1 p.figures v) 0)
+      in_tanks p + (if_accepted o (cond (counts c).received (q.asm1 p.figures v) 0) + q.nitrite (if_accepted o (counts c).nitrite))
       ≡ in_tanks o.plant
       + if_accepted o (cond (counts c).released (q.asm1 p.figures o.vector) 0)
       + q.lost (told o.answer) (if_accepted o (counts c).gas)
 
   refused-kept : (p : Plant) (c : Call) (v : List ℕ) (r : Refusal) → Kept p c v (refused p r)
-  refused-kept p c v r = omega (arith, q.silent (number r))
+  refused-kept p c v r = omega (arith, q.silent (number r), q.no-nitrite)
 
   -- what becomes of a conversion that refuses nothing
   fed-kept : (p : Plant) (k : ℕ) (v : List ℕ) (x : Result in_feed.Fed Refusal) → Permitted p.figures × (k ≤ 1000)
@@ -115,7 +126,7 @@ module _ (q : Quantity) where
   fed-kept p k v (Ok o) a h e =
       let given = q.feeds p.figures a.0 (drawn k p.sludge) o h in
       let drawn = (q.asm1-linear p.figures).splits k a.1 p.sludge in
-      omega (arith, drawn, (q.digester-linear p.figures).adds p.digester o.vector, given)
+      omega (arith, drawn, (q.digester-linear p.figures).adds p.digester o.vector, given, q.no-nitrite)
   fed-kept p k v (Err r) a h e = absurd (cc e)
 
   returned-kept : (p : Plant) (k : ℕ) (v : List ℕ) (x : Result in_return.Returned Refusal) → k ≤ 1000
@@ -124,29 +135,40 @@ module _ (q : Quantity) where
   returned-kept p k v (Ok o) le h e =
       let given = q.returns p.figures (drawn k p.digester) o h in
       let drawn = (q.digester-linear p.figures).splits k le p.digester in
-      omega (arith, drawn, (q.asm1-linear p.figures).adds p.reject o.vector, given)
+      omega (arith, drawn, (q.asm1-linear p.figures).adds p.reject o.vector, given, q.no-nitrite)
   returned-kept p k v (Err r) le h e = absurd (cc e)
+
+  -- what is handed out leaves reject, to whomever it goes
+  handed-out : (p : Plant) (k : ℕ) → first (record_refusal p ∷ unless (thousandths k) NotThousandths ∷ []) ≡ None
+      → in_tanks p + (0 + q.nitrite 0)
+      ≡ q.asm1 p.figures p.sludge + q.digester p.figures p.digester + q.asm1 p.figures (rest k p.reject)
+      + q.asm1 p.figures (drawn k p.reject)
+      + q.lost (nothing 0) 0
+  handed-out p k e = omega (arith, (q.asm1-linear p.figures).splits k (at-draw p k [] e).0.1 p.reject, q.silent 0, q.no-nitrite)
 
   -- each call where no refusal applies: a further call is one more row
   done-kept : (p : Plant) (c : Call) (v d : List ℕ) → first (rule_by p c v d).tests ≡ None → Kept p c v (rule_by p c v d).done
-  unfolding receive feed settle give_back release recycle
-  done-kept p call.Receive v d e = omega (arith, (q.asm1-linear p.figures).adds p.sludge v, q.silent 0)
+  unfolding receive feed settle give_back release recycle draw accept
+  done-kept p call.Receive v d e = omega (arith, (q.asm1-linear p.figures).adds p.sludge v, q.silent 0, q.no-nitrite)
   done-kept p (call.Feed k) v d e =
       let x = feed_of p.figures (drawn k p.sludge) in
       let a = at-draw p k (fed_tests p x) e in
       fed-kept p k v x a.0 refl a.1
   done-kept p (call.Settle g) v d e =
       let s = settle-passed p g d (ap number_of e) in
-      omega (arith, q.settles p.figures g.0 p.digester d s.cod s.tkn s.oxygen s.nitrate)
+      omega (arith, q.settles p.figures g.0 p.digester d s.cod s.tkn s.oxygen s.nitrate, q.no-nitrite)
   done-kept p (call.Return k) v d e =
       let x = return_of p.figures (drawn k p.digester) in
       let a = at-draw p k (returned_tests p x) e in
       returned-kept p k v x a.0.1 refl a.1
-  done-kept p (call.Release k) v d e = omega (arith, (q.asm1-linear p.figures).splits k (at-draw p k [] e).0.1 p.reject, q.silent 0)
+  done-kept p (call.Release k) v d e = handed-out p k e
   done-kept p (call.Recycle k) v d e =
       let ts = unless (within asm1_ceilings (added p.sludge (drawn k p.reject))) TankAbove ∷ [] in
       let reject = (q.asm1-linear p.figures).splits k (at-draw p k ts e).0.1 p.reject in
-      omega (arith, reject, (q.asm1-linear p.figures).adds p.sludge (drawn k p.reject), q.silent 0)
+      omega (arith, reject, (q.asm1-linear p.figures).adds p.sludge (drawn k p.reject), q.silent 0, q.no-nitrite)
+  done-kept p (call.Draw k) v d e = handed-out p k e
+  done-kept p (call.Accept n) v d e =
+      omega (arith, (q.asm1-linear p.figures).adds p.sludge (with_nitrite v n), q.accepts p.figures v n)
 
   step_kept : (p : Plant) (c : Call) (v d : List ℕ) → Kept p c v (step_by p c v d)
   unfolding step_by ruled
@@ -159,7 +181,7 @@ module _ (q : Quantity) where
   recycle-kept p k =
       let rule = recycle p k in
       decide-case (λ o. in_tanks p ≡ in_tanks o.plant) p (first rule.tests) rule.done
-      (λ e. omega (arith, done-kept p (call.Recycle k) no_columns no_columns e, q.silent 0))
+      (λ e. omega (arith, done-kept p (call.Recycle k) no_columns no_columns e, q.silent 0, q.no-nitrite))
       (λ n. refl)
 
   -- ---- a list of calls, previews, sheets and blends
@@ -167,16 +189,20 @@ module _ (q : Quantity) where
   abbrev let_go : Request → Outcome → ℕ
   let_go r o = q.lost (told o.answer) (gas_by r o)
 
+  -- what a call is handed, with the totals by the figures f
+  abbrev handed_in : Figures → Request → Outcome → ℕ
+  handed_in f r o = received_by (q.asm1 f) r o + q.nitrite (nitrite_by r o)
+
   -- with the totals by the figures f
   abbrev CallKept : Plant → Request → Figures → Type 0
   CallKept p r f =
       let o = step p r in
-      in_tanks p + received_by (q.asm1 f) r o ≡ in_tanks o.plant + released_by (q.asm1 f) r o + let_go r o
+      in_tanks p + handed_in f r o ≡ in_tanks o.plant + released_by (q.asm1 f) r o + let_go r o
 
   -- the receive of v on p, where b holds, with the record r after it
   abbrev ReceiveKept : Plant → Bool → List ℕ → Plant → Figures → Type 0
   ReceiveKept p b v r f =
-      in_tanks p + receive_adds (received_by (q.asm1 f)) p b v
+      in_tanks p + receive_adds (handed_in f) p b v
       ≡ in_tanks r + receive_adds (released_by (q.asm1 f)) p b v + receive_adds let_go p b v
 
   receive-kept : (p : Plant) (b : Bool) (v : List ℕ) {r : Plant} {f : Figures} → r ≡ cond b (step p (receiving v)).plant p
@@ -187,7 +213,7 @@ module _ (q : Quantity) where
 
   -- on a record of the figures f
   over : (f : Figures) (p : Plant) → p.figures ≡ f → (es : List Entry)
-      → in_tanks p + sum_over (received_by (q.asm1 f)) p es
+      → in_tanks p + sum_over (handed_in f) p es
       ≡ in_tanks (after p es) + sum_over (released_by (q.asm1 f)) p es + sum_over let_go p es
   unfolding preview_of
   over f p g [] = omega arith
@@ -203,7 +229,7 @@ module _ (q : Quantity) where
       omega (arith, kept, over f (blend_step p c ks) (blend-figures p c ks ∙ g) es)
 
   from-fresh : (f : Figures) (es : List Entry)
-      → sum_over (received_by (q.asm1 f)) (fresh_plant f) es
+      → sum_over (handed_in f) (fresh_plant f) es
       ≡ in_tanks (after (fresh_plant f) es) + sum_over (released_by (q.asm1 f)) (fresh_plant f) es + sum_over let_go (fresh_plant f) es
   from-fresh f es = omega (arith, over f (fresh_plant f) refl es, (q.asm1-linear f).none 13, (q.digester-linear f).none 26)
 
@@ -219,13 +245,16 @@ cod-quantity =
     record {
       asm1 = λ f. asm1_cod;
       digester = λ f. digester_cod;
+      nitrite = λ n. 0;
       lost = cod_lost;
       asm1-linear = λ f. total-laws.asm1_cod;
       digester-linear = λ f. total-laws.digester_cod;
       silent = λ n. refl;
+      no-nitrite = refl;
       feeds = λ f h c o e. omega (arith, (feed-keeps f h c o e).cod);
       settles = λ f g a d cod tkn oxygen nitrate. omega arith;
       returns = λ f c o e. omega (arith, (return-keeps f c o e).cod);
+      accepts = λ f v n. omega (arith, with-nitrite-adds total-laws.asm1_cod v n);
     }
 
 tkn-quantity : Quantity
@@ -233,13 +262,16 @@ tkn-quantity =
     record {
       asm1 = asm1_tkn;
       digester = digester_tkn;
+      nitrite = λ n. 0;
       lost = λ t g. 0;
       asm1-linear = total-laws.asm1_tkn;
       digester-linear = total-laws.digester_tkn;
       silent = λ n. refl;
+      no-nitrite = refl;
       feeds = λ f h c o e. omega (arith, (feed-keeps f h c o e).tkn);
       settles = λ f g a d cod tkn oxygen nitrate. omega arith;
       returns = λ f c o e. omega (arith, (return-keeps f c o e).tkn);
+      accepts = λ f v n. omega (arith, with-nitrite-adds (total-laws.asm1_tkn f) v n);
     }
 
 oxygen-quantity : Quantity
@@ -247,51 +279,58 @@ oxygen-quantity =
     record {
       asm1 = λ f. asm1_oxygen;
       digester = λ f. digester_oxygen;
+      nitrite = λ n. 0;
       lost = λ t g. t.oxygen;
       asm1-linear = λ f. total-laws.asm1_oxygen;
       digester-linear = λ f. total-laws.digester_oxygen;
       silent = λ n. refl;
+      no-nitrite = refl;
       feeds = λ f h c o e. (feed-keeps f h c o e).oxygen;
       settles = λ f g a d cod tkn oxygen nitrate. omega arith;
       returns = λ f c o e. omega (arith, (return-keeps f c o e).oxygen);
+      accepts = λ f v n. omega (arith, with-nitrite-adds total-laws.asm1_oxygen v n);
     }
 
+-- what a feed reduces, and the N2 of an accept
+nitrate_lost : Told → ℕ → ℕ
+nitrate_lost t g = t.nitrate + t.n2
+
 nitrate-quantity : Quantity
+unfolding nitrate_lost
 nitrate-quantity =
     record {
       asm1 = λ f. asm1_nitrate;
       digester = λ f. digester_nitrate;
-      lost = λ t g. t.nitrate;
+      nitrite = λ n. n;
+      lost = nitrate_lost;
       asm1-linear = λ f. total-laws.asm1_nitrate;
       digester-linear = λ f. total-laws.digester_nitrate;
       silent = λ n. refl;
-      feeds = λ f h c o e. (feed-keeps f h c o e).nitrate;
+      no-nitrite = refl;
+      feeds = λ f h c o e. omega (arith, (feed-keeps f h c o e).nitrate);
       settles = λ f g a d cod tkn oxygen nitrate. omega arith;
       returns = λ f c o e. omega (arith, (return-keeps f c o e).nitrate);
+      accepts = λ f v n. omega (arith, with-nitrite-adds total-laws.asm1_nitrate v n);
     }
 
 -- ---- the law
 
--- the three sums of COD that is let go are the sum of the three
-cod-added : (p : Plant) (b : Bool) (v : List ℕ)
-    → receive_adds (λ r o. cod_lost (told o.answer) (gas_by r o)) p b v
-    ≡ receive_adds (λ r o. (told o.answer).burnt) p b v + receive_adds gas_by p b v + receive_adds (λ r o. (told o.answer).stripped) p b v
-unfolding cod_lost
-cod-added p true v = refl
-cod-added p false v = refl
+-- sums of two numbers are the two sums
+both-added : (a b : Request → Outcome → ℕ) (p : Plant) (t : Bool) (v : List ℕ)
+    → receive_adds (λ r o. a r o + b r o) p t v ≡ receive_adds a p t v + receive_adds b p t v
+both-added a b p true v = refl
+both-added a b p false v = refl
 
-cod-sums : (p : Plant) (es : List Entry)
-    → sum_over (λ r o. cod_lost (told o.answer) (gas_by r o)) p es
-    ≡ sum_over (λ r o. (told o.answer).burnt) p es + sum_over gas_by p es + sum_over (λ r o. (told o.answer).stripped) p es
-unfolding cod_lost
-cod-sums p [] = refl
-cod-sums p (calls r ∷ es) = omega (arith, cod-sums (step p r).plant es)
-cod-sums p (previews r ∷ es) = cod-sums (preview_of p r).plant es
-cod-sums p (sheets s ∷ es) =
-    omega (arith, cod-added p (is_none (refusal_in s)) (counts_of s), cod-sums (sheet_step p s).plant es)
-cod-sums p (blends c ks ∷ es) =
-    let added = cod-added p (is_none (first (blend_tests p c ks))) (draws (loads_of c ks)) in
-    omega (arith, added, cod-sums (blend_step p c ks) es)
+both-sums : (a b : Request → Outcome → ℕ) (p : Plant) (es : List Entry)
+    → sum_over (λ r o. a r o + b r o) p es ≡ sum_over a p es + sum_over b p es
+both-sums a b p [] = refl
+both-sums a b p (calls r ∷ es) = omega (arith, both-sums a b (step p r).plant es)
+both-sums a b p (previews r ∷ es) = both-sums a b (preview_of p r).plant es
+both-sums a b p (sheets s ∷ es) =
+    omega (arith, both-added a b p (is_none (refusal_in s)) (counts_of s), both-sums a b (sheet_step p s).plant es)
+both-sums a b p (blends c ks ∷ es) =
+    let added = both-added a b p (is_none (first (blend_tests p c ks))) (draws (loads_of c ks)) in
+    omega (arith, added, both-sums a b (blend_step p c ks) es)
 
 none-added : (p : Plant) (b : Bool) (v : List ℕ) → receive_adds (λ r o. 0) p b v ≡ 0
 none-added p true v = refl
@@ -306,14 +345,30 @@ no-sum p (blends c ks ∷ es) =
     let none = none-added p (is_none (first (blend_tests p c ks))) (draws (loads_of c ks)) in
     omega (arith, none, no-sum (blend_step p c ks) es)
 
+-- no nitrite is handed in beside a total
+received-alone : (total : List ℕ → ℕ) (p : Plant) (es : List Entry)
+    → sum_over (λ r o. received_by total r o + 0) p es ≡ sum_over (received_by total) p es
+received-alone total p es = omega (arith, both-sums (received_by total) (λ r o. 0) p es, no-sum p es)
+
 pub balance : BalanceLaw
-unfolding cod-quantity tkn-quantity oxygen-quantity nitrate-quantity
+unfolding cod-quantity tkn-quantity oxygen-quantity nitrate-quantity cod_lost nitrate_lost
 balance f es =
+    let p = fresh_plant f in
+    let burnt = λ (r : Request) (o : Outcome). (told o.answer).burnt in
+    let stripped = λ (r : Request) (o : Outcome). (told o.answer).stripped in
+    let reduced = λ (r : Request) (o : Outcome). (told o.answer).nitrate in
+    let n2 = λ (r : Request) (o : Outcome). (told o.answer).n2 in
+    let cod-gone = both-sums (λ r o. burnt r o + gas_by r o) stripped p es in
     record {
-      cod = omega (arith, from-fresh cod-quantity f es, cod-sums (fresh_plant f) es);
-      tkn = omega (arith, from-fresh tkn-quantity f es, no-sum (fresh_plant f) es);
-      oxygen = from-fresh oxygen-quantity f es;
-      nitrate = from-fresh nitrate-quantity f es;
+      cod = omega (arith, from-fresh cod-quantity f es, received-alone asm1_cod p es, cod-gone, both-sums burnt gas_by p es);
+      tkn = omega (arith, from-fresh tkn-quantity f es, received-alone (asm1_tkn f) p es, no-sum p es);
+      oxygen = omega (arith, from-fresh oxygen-quantity f es, received-alone asm1_oxygen p es);
+      nitrate = omega (
+        arith,
+        from-fresh nitrate-quantity f es,
+        both-sums (received_by asm1_nitrate) nitrite_by p es,
+        both-sums reduced n2 p es,
+      );
     }
 
 pub figures-stay : StayLaw
@@ -348,11 +403,20 @@ recycle-moves p k =
           received = λ t. refl;
           released = λ t. refl;
           gas = refl;
+          nitrite = refl;
           silent = refl;
         }
 
     kept : (n : Refusal) → Moved p (recycling k) (refused p n)
-    kept n = record { columns = λ i. refl; digester = refl; received = λ t. refl; released = λ t. refl; gas = refl; silent = refl }
+    kept n = record {
+      columns = λ i. refl;
+      digester = refl;
+      received = λ t. refl;
+      released = λ t. refl;
+      gas = refl;
+      nitrite = refl;
+      silent = refl;
+    }
 
 -- ---- previews
 

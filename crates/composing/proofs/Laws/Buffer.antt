@@ -1,13 +1,13 @@
 -- Laws of a call's line in a buffer. Assumes nothing.
 --
---   settle-parts                 a settle's number and its columns
+--   numbered-parts               a number and columns, as a settle has them, and an accept
 --   call-as                      the text of an equal call
 --   entry-preview                a preview of a call
 --   line_refused, line-written   the promise of the call in a short buffer, and in any other
 --   line-count, line-filled      how many bytes the line has, and the part that it fills
 --   line-behind                  the bytes behind the part
 use mathlib.Core.Bool.{Bool, true, false, cond}
-use mathlib.Core.List.{List, [], ◌++◌, append_assoc}
+use mathlib.Core.List.{List, [], ◌∷◌, ◌++◌, append_assoc}
 use mathlib.Core.Path.{◌≡◌, refl, sym, ap, ◌∙◌}
 use Prim.Native.Nat.{ℕ, ◌+◌, ◌≤◌, ◌<◌}
 use native.Mathlib.Nat.{zero-add}
@@ -21,23 +21,21 @@ use Rattle.refusals.specs.declared.Refusal.{Refusal}
 use Rattle.refusals.specs.declared.Refusal.TheVariants.{ShortBuffer}
 use Rattle.plant.specs.declared.answer.Call.{Call}
 use Rattle.plant.specs.declared.answer.Request.{Request}
-use Rattle.reading.specs.declared.names.Vector.TheVariants.{Digester}
-use Rattle.reading.specs.Text.{ascii}
-use Rattle.reading.specs.Names.{names_of}
+use Rattle.reading.specs.Text.{ascii, opening}
 use Rattle.writing.specs.declared.page.Page.{Page}
 use Rattle.writing.specs.Page.{Wrote}
 use Rattle.writing.specs.Answer.{labelled}
 use Rattle.writing.specs.Buffer.{put_at}
 use Rattle.writing.proofs.Laws.Buffer.{put_first}
 use Rattle.writing.proofs.Laws.Page.{wrote_same}
-use Rattle.composing.specs.Line.{fields_text, settle_text, call_text, entry_text}
+use Rattle.composing.specs.Line.{fields_text, numbered_text, call_text, entry_text}
 use Rattle.composing.specs.Written.{line_text, written_text, LineWritten}
 
--- ---- the parts of a settle, one behind the other
+-- ---- a number and columns, one behind the other
 
-pub settle-parts : (g : ℕ) (d : List ℕ)
-    → labelled (ascii "(settle ") g ++ (fields_text (names_of Digester) d ++ ascii ")") ≡ settle_text g d
-settle-parts g d = sym (append_assoc (labelled (ascii "(settle ") g) (fields_text (names_of Digester) d) (ascii ")"))
+pub numbered-parts : (label : List ℕ) (n : ℕ) (names : List (List ℕ)) (v : List ℕ)
+    → labelled (opening ∷ label) n ++ (fields_text names v ++ ascii ")") ≡ numbered_text label n names v
+numbered-parts label n names v = sym (append_assoc (labelled (opening ∷ label) n) (fields_text names v) (ascii ")"))
 
 -- ---- a call, and a preview of it
 

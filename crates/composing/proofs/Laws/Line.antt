@@ -2,7 +2,7 @@
 --
 --   fields-length, call_length, entry-length   TextLengthLaw
 --   firsts, sludge-is, digester-is             a vector by its columns
---   word-receive, settle-number, settle-rest   the parts of a text
+--   word-receive, own-number, fields-rest      the parts of a text
 --   inner-around, text-call, text-line         a text in brackets
 --   call-read, entry-read                      TextReadLaw
 --   asked-gives, entry-gives                   TextGivesLaw
@@ -18,23 +18,24 @@ use lib.ListN.{length, take, get_or, replicate, length-append}
 use borrow.Author.Tests.{le-ltb}
 use lib.Seq.{take_at, drop_at, ext_get_or}
 use Rattle.vectors.specs.Columns.{asm1, asm1_columns}
-use Rattle.vectors.specs.Units.{milligrams}
+use Rattle.vectors.specs.Units.{milligrams, ticks}
 use Rattle.std.proofs.lemmas.Bool.{and_parts}
 use Rattle.refusals.specs.declared.Refusal.TheVariants.{ShortBuffer}
 use Rattle.plant.specs.declared.record.Plant.{Plant}
 use Rattle.plant.specs.declared.answer.Call.{Call}
-use Rattle.plant.specs.declared.answer.Call.TheVariants.{Receive, Feed, Settle, Return, Release, Recycle}
+use Rattle.plant.specs.declared.answer.Call.TheVariants.{Receive, Feed, Settle, Return, Release, Recycle, Draw, Accept}
 use Rattle.plant.specs.Answer.{refused}
 use Rattle.plant.specs.declared.answer.Request.{Request}
 use Rattle.plant.specs.declared.answer.Outcome.{Outcome}
-use Rattle.plant.specs.Calls.{step_by, step, preview_of, outcome_by, request, receiving, settling}
+use Rattle.plant.specs.Calls.{step_by, step, preview_of, outcome_by, request, receiving, settling, accepting}
 use Rattle.std.proofs.Common.{Some}
 use Rattle.reading.specs.declared.names.Vector.TheVariants.{Sludge, Digester}
 use Rattle.reading.specs.declared.fields.Fields.{Fields}
 use Rattle.reading.specs.Text.{ascii, same_bytes, look_up, up_to, behind, one_line}
 use Rattle.reading.specs.Number.{largest, decimal, read_number}
 use Rattle.reading.specs.Names.{names_of}
-use Rattle.reading.specs.Form.{line_of, read_fields, receive_line, settle_line, number_line, settle_part, settle_by, form_of, form_by}
+use Rattle.reading.specs.Form.{line_of, read_fields, receive_line, settle_line, accept_line, number_line, paired, numbered_by}
+use Rattle.reading.specs.Form.{fields_part, form_of, form_by}
 use Rattle.reading.specs.Line.{inner, call_by, is_preview, form_in, preview_line, read_line, bracketed, preview_text, form_passes}
 use Rattle.reading.specs.Line.{call_passes}
 use Rattle.reading.proofs.Laws.Line.{call-form, preview-word, line-call, brackets-around, form-around, preview-around, preview-form-law}
@@ -47,15 +48,15 @@ use Rattle.composing.specs.Line.{Columns, own_number, TextReadLaw, TextGivesLaw}
 use Rattle.composing.specs.Line.{fields_no_zero, TextNoZeroLaw, TextLengthLaw, TextLineLaw}
 use Rattle.composing.proofs.Laws.Number.{decimal-read}
 use Rattle.composing.proofs.Laws.Read.{plain-sludge, plain-digester, clear, all_clear, clear-lacks, up_to-past, lacks-decimal}
-use Rattle.composing.proofs.Laws.Read.{Holds, fields_read, fields-no-zero, fields-start}
+use Rattle.composing.proofs.Laws.Read.{Holds, Filled, fields_read, fields-no-zero, fields-start}
 
 -- ---- what stands inside the brackets
 
 abbrev receive_inner : List ℕ → List ℕ
 receive_inner v = ascii "receive" ++ fields_text (names_of Sludge) v
 
-abbrev settle_inner : ℕ → List ℕ → List ℕ
-settle_inner g d = labelled (ascii "settle ") g ++ fields_text (names_of Digester) d
+abbrev numbered_inner : List ℕ → ℕ → List (List ℕ) → List ℕ → List ℕ
+numbered_inner label n names v = labelled label n ++ fields_text names v
 
 -- ---- lengths
 
@@ -90,6 +91,17 @@ bracketed-length t = omega (arith, length-append t (41 ∷ []))
 labelled-length : (label : List ℕ) (n : ℕ) → length (labelled label n) ≤ length label + 20
 labelled-length label n = omega (arith, length-append label (decimal n), decimal-length n)
 
+numbered-length : (label : List ℕ) (n : ℕ) (names : List (List ℕ)) (v : List ℕ) → length label ≤ 10 → length names ≤ 26
+    → all_clear names ≡ true → length (bracketed (numbered_inner label n names v)) ≤ 1014
+numbered-length label n names v h few clear =
+    omega (
+      arith,
+      bracketed-length (numbered_inner label n names v),
+      length-append (labelled label n) (fields_text names v),
+      labelled-length label n,
+      fields-length 0 names v clear,
+    )
+
 number-length : (label : List ℕ) (n : ℕ) → length label ≤ 10 → length (bracketed (labelled label n)) ≤ 1014
 number-length label n h = omega (arith, bracketed-length (labelled label n), labelled-length label n)
 
@@ -98,18 +110,13 @@ call_length Receive v d =
     omega (arith, bracketed-length (receive_inner v), fields-length 0 (names_of Sludge) v plain-sludge.cleared)
 call_length (Feed k) v d = number-length (ascii "feed ") k (omega arith)
 call_length (Settle g) v d =
-    let number = labelled (ascii "settle ") g.0 in
-    let fields = fields_text (names_of Digester) d in
-    omega (
-      arith,
-      bracketed-length (settle_inner g.0 d),
-      length-append number fields,
-      labelled-length (ascii "settle ") g.0,
-      fields-length 0 (names_of Digester) d plain-digester.cleared,
-    )
+    numbered-length (ascii "settle ") g.0 (names_of Digester) d (omega arith) (omega arith) plain-digester.cleared
 call_length (Return k) v d = number-length (ascii "return ") k (omega arith)
 call_length (Release k) v d = number-length (ascii "release ") k (omega arith)
 call_length (Recycle k) v d = number-length (ascii "recycle ") k (omega arith)
+call_length (Draw k) v d = number-length (ascii "draw ") k (omega arith)
+call_length (Accept n) v d =
+    numbered-length (ascii "accept ") n.0 (names_of Sludge) v (omega arith) (omega arith) plain-sludge.cleared
 
 pub entry-length : TextLengthLaw
 entry-length b r = go b
@@ -166,14 +173,14 @@ word-receive : (x : List ℕ) → up_to 32 x ≡ [] → up_to 32 (ascii "receive
 unfolding up_to
 word-receive x e = ap (λ (y : List ℕ). ascii "receive" ++ y) e
 
--- a settle's number, and what stands behind it
+-- a call's own number, and what stands behind it
 module _ (g : ℕ) (x : List ℕ) (e : up_to 32 x ≡ []) where
-  settle-number : up_to 32 (decimal g ++ x) ≡ decimal g
-  settle-number =
+  own-number : up_to 32 (decimal g ++ x) ≡ decimal g
+  own-number =
       up_to-past 32 (decimal g) x (lacks-decimal 32 g (omega arith)) ∙ ap (λ (y : List ℕ). decimal g ++ y) e ∙ append-nil (decimal g)
 
-  settle-rest : settle_part (decimal g ++ x) ≡ x
-  settle-rest = drop_at (decimal g) x (length (up_to 32 (decimal g ++ x))) (ap length (sym settle-number))
+  fields-rest : fields_part (decimal g ++ x) ≡ x
+  fields-rest = drop_at (decimal g) x (length (up_to 32 (decimal g ++ x))) (ap length (sym own-number))
 
 -- ---- reading a call
 
@@ -186,19 +193,31 @@ receive-read v h =
     ∙ ap receive_line filled.read
     ∙ ap (λ (w : List ℕ). line_of Receive false w (replicate 26 0)) (sludge-is v filled.fields h.0 filled.holds)
 
+-- a number and the columns v, which are read as the fields f
+numbered-read : (names : List (List ℕ)) (v : List ℕ) (g : ℕ) → g ≤ largest → (f : Filled v (read_fields names (fields_text names v)))
+    → numbered_by read_fields names (decimal g ++ fields_text names v) ≡ Some (g, f.fields)
+unfolding numbered_by
+numbered-read names v g l f =
+    let x = fields_text names v in
+    let start = fields-start 0 names v in
+    ap₂ (λ (a b : List ℕ). paired (read_number a) (read_fields names b)) (own-number g x start) (fields-rest g x start)
+    ∙ ap₂ paired (decimal-read g l) f.read
+
 settle_read : (g : ℕ) (d : List ℕ) → g ≤ largest → Columns 26 d
-    → form_by read_fields (settle_inner g d) ≡ asked_by false (Settle (milligrams g)) [] d
-unfolding form_of same_bytes up_to behind settle_by
+    → form_by read_fields (numbered_inner (ascii "settle ") g (names_of Digester) d) ≡ asked_by false (Settle (milligrams g)) [] d
+unfolding form_of same_bytes up_to behind
 settle_read g d l h =
-    let x = fields_text (names_of Digester) d in
-    let start = fields-start 0 (names_of Digester) d in
     let filled = fields_read (names_of Digester) plain-digester d (omega (arith, h.0)) h.1 in
-    let f = read_fields (names_of Digester) x in
-    ap₂ (λ (a b : List ℕ). settle_line (read_number a) (read_fields (names_of Digester) b)) (settle-number g x start)
-    (settle-rest g x start)
-    ∙ ap (λ n. settle_line n f) (decimal-read g l)
-    ∙ ap (settle_line (Some g)) filled.read
+    ap settle_line (numbered-read (names_of Digester) d g l filled)
     ∙ ap (λ (w : List ℕ). line_of (Settle (milligrams g)) false (replicate 13 0) w) (digester-is d filled.fields h.0 filled.holds)
+
+accept_read : (n : ℕ) (v : List ℕ) → n ≤ largest → Columns 13 v
+    → form_by read_fields (numbered_inner (ascii "accept ") n (names_of Sludge) v) ≡ asked_by false (Accept (ticks n)) v []
+unfolding form_of same_bytes up_to behind
+accept_read n v l h =
+    let filled = fields_read (names_of Sludge) plain-sludge v (omega (arith, h.0)) h.1 in
+    ap accept_line (numbered-read (names_of Sludge) v n l filled)
+    ∙ ap (λ (w : List ℕ). line_of (Accept (ticks n)) false w (replicate 26 0)) (sludge-is v filled.fields h.0 filled.holds)
 
 -- the word of a call with its number alone
 number_read : (w : List ℕ) (k : ℕ) → k ≤ largest → number_line w (read_number (decimal k)) ≡ number_line w (Some k)
@@ -210,13 +229,18 @@ unfolding same_bytes up_to behind form_of look_up
 call-read Receive v d n h k = text-line (receive_inner v) (call_length Receive v d) refl ∙ receive-read v h
 call-read (Feed m) v d n h k =
     text-line (labelled (ascii "feed ") m) (call_length (Feed m) v d) refl ∙ number_read (ascii "feed") m n
-call-read (Settle g) v d n h k = text-line (settle_inner g.0 d) (call_length (Settle g) v d) refl ∙ settle_read g.0 d n k
+call-read (Settle g) v d n h k =
+    text-line (numbered_inner (ascii "settle ") g.0 (names_of Digester) d) (call_length (Settle g) v d) refl ∙ settle_read g.0 d n k
 call-read (Return m) v d n h k =
     text-line (labelled (ascii "return ") m) (call_length (Return m) v d) refl ∙ number_read (ascii "return") m n
 call-read (Release m) v d n h k =
     text-line (labelled (ascii "release ") m) (call_length (Release m) v d) refl ∙ number_read (ascii "release") m n
 call-read (Recycle m) v d n h k =
     text-line (labelled (ascii "recycle ") m) (call_length (Recycle m) v d) refl ∙ number_read (ascii "recycle") m n
+call-read (Draw m) v d n h k =
+    text-line (labelled (ascii "draw ") m) (call_length (Draw m) v d) refl ∙ number_read (ascii "draw") m n
+call-read (Accept m) v d n h k =
+    text-line (numbered_inner (ascii "accept ") m.0 (names_of Sludge) v) (call_length (Accept m) v d) refl ∙ accept_read m.0 v n h
 
 -- a preview of what was asked
 preview-asked : (call : Call) (v d : List ℕ) → preview_line (asked_by false call v d) ≡ asked_by true call v d
@@ -226,6 +250,8 @@ preview-asked (Settle g) v d = refl
 preview-asked (Return k) v d = refl
 preview-asked (Release k) v d = refl
 preview-asked (Recycle k) v d = refl
+preview-asked (Draw k) v d = refl
+preview-asked (Accept n) v d = refl
 
 pub entry-read : TextReadLaw
 entry-read true r h =
@@ -253,6 +279,8 @@ asked-gives p b (Settle g) v d = entry-same p b (settling g d) _ refl
 asked-gives p b (Return k) v d = entry-same p b (request (Return k)) _ refl
 asked-gives p b (Release k) v d = entry-same p b (request (Release k)) _ refl
 asked-gives p b (Recycle k) v d = entry-same p b (request (Recycle k)) _ refl
+asked-gives p b (Draw k) v d = entry-same p b (request (Draw k)) _ refl
+asked-gives p b (Accept n) v d = entry-same p b (accepting v n) _ refl
 
 pub entry-gives : TextGivesLaw
 unfolding line_outcome
@@ -271,11 +299,9 @@ receive-no-zero v h =
     ap (λ (w : List ℕ). form_passes fields_no_zero w (ascii "receive" ++ x)) (word-receive x (fields-start 0 (names_of Sludge) v))
     ∙ fields-no-zero (names_of Sludge) plain-sludge v (omega (arith, h.0)) h.1
 
-settle-no-zero : (g : ℕ) (d : List ℕ) → Columns 26 d
-    → fields_no_zero (names_of Digester) (settle_part (decimal g ++ fields_text (names_of Digester) d)) ≡ true
-settle-no-zero g d h =
-    ap (fields_no_zero (names_of Digester)) (settle-rest g (fields_text (names_of Digester) d) (fields-start 0 (names_of Digester) d))
-    ∙ fields-no-zero (names_of Digester) plain-digester d (omega (arith, h.0)) h.1
+numbered-no-zero : (names : List (List ℕ)) (v : List ℕ) (g : ℕ) → fields_no_zero names (fields_text names v) ≡ true
+    → fields_no_zero names (fields_part (decimal g ++ fields_text names v)) ≡ true
+numbered-no-zero names v g h = ap (fields_no_zero names) (fields-rest g (fields_text names v) (fields-start 0 names v)) ∙ h
 
 -- inside the brackets
 text-passes : (t : List ℕ) → form_passes fields_no_zero (up_to 32 t) t ≡ true → call_passes fields_no_zero (bracketed t) ≡ true
@@ -285,10 +311,16 @@ call-no-zero : (call : Call) (v d : List ℕ) → Columns 13 v → Columns 26 d 
 unfolding form_passes same_bytes up_to behind
 call-no-zero Receive v d h k = text-passes (receive_inner v) (receive-no-zero v h)
 call-no-zero (Feed m) v d h k = text-passes (labelled (ascii "feed ") m) refl
-call-no-zero (Settle g) v d h k = text-passes (settle_inner g.0 d) (settle-no-zero g.0 d k)
+call-no-zero (Settle g) v d h k =
+    text-passes (numbered_inner (ascii "settle ") g.0 (names_of Digester) d)
+    (numbered-no-zero (names_of Digester) d g.0 (fields-no-zero (names_of Digester) plain-digester d (omega (arith, k.0)) k.1))
 call-no-zero (Return m) v d h k = text-passes (labelled (ascii "return ") m) refl
 call-no-zero (Release m) v d h k = text-passes (labelled (ascii "release ") m) refl
 call-no-zero (Recycle m) v d h k = text-passes (labelled (ascii "recycle ") m) refl
+call-no-zero (Draw m) v d h k = text-passes (labelled (ascii "draw ") m) refl
+call-no-zero (Accept m) v d h k =
+    text-passes (numbered_inner (ascii "accept ") m.0 (names_of Sludge) v)
+    (numbered-no-zero (names_of Sludge) v m.0 (fields-no-zero (names_of Sludge) plain-sludge v (omega (arith, h.0)) h.1))
 
 -- a call's text is no preview
 call-other : (call : Call) (v d : List ℕ) → is_preview (call_text call v d) ≡ false
@@ -299,6 +331,8 @@ call-other (Settle g) v d = sym (preview-word _ refl)
 call-other (Return k) v d = sym (preview-word _ refl)
 call-other (Release k) v d = sym (preview-word _ refl)
 call-other (Recycle k) v d = sym (preview-word _ refl)
+call-other (Draw k) v d = sym (preview-word _ refl)
+call-other (Accept n) v d = sym (preview-word _ refl)
 
 pub entry-no-zero : TextNoZeroLaw
 entry-no-zero true r h =
@@ -319,20 +353,24 @@ one-bracketed : (t : List ℕ) → One t → One (bracketed t)
 unfolding one_line
 one-bracketed t h = one-append (40 ∷ t) (41 ∷ []) h refl
 
+one-numbered : (label : List ℕ) (n : ℕ) (names : List (List ℕ)) (v : List ℕ) → One label → all_one names ≡ true
+    → One (bracketed (numbered_inner label n names v))
+one-numbered label n names v h ns =
+    one-bracketed (numbered_inner label n names v)
+    (one-append (labelled label n) (fields_text names v) (one-labelled label n h) (one-columns false 0 names v ns))
+
 call-one : (call : Call) (v d : List ℕ) → One (call_text call v d)
 unfolding one_line all_one
 call-one Receive v d =
     one-bracketed (receive_inner v)
     (one-append (ascii "receive") (fields_text (names_of Sludge) v) refl (one-columns false 0 (names_of Sludge) v refl))
 call-one (Feed k) v d = one-bracketed (labelled (ascii "feed ") k) (one-labelled (ascii "feed ") k refl)
-call-one (Settle g) v d =
-    let number = labelled (ascii "settle ") g.0 in
-    one-bracketed (settle_inner g.0 d)
-    (one-append number (fields_text (names_of Digester) d) (one-labelled (ascii "settle ") g.0 refl)
-    (one-columns false 0 (names_of Digester) d refl))
+call-one (Settle g) v d = one-numbered (ascii "settle ") g.0 (names_of Digester) d refl refl
 call-one (Return k) v d = one-bracketed (labelled (ascii "return ") k) (one-labelled (ascii "return ") k refl)
 call-one (Release k) v d = one-bracketed (labelled (ascii "release ") k) (one-labelled (ascii "release ") k refl)
 call-one (Recycle k) v d = one-bracketed (labelled (ascii "recycle ") k) (one-labelled (ascii "recycle ") k refl)
+call-one (Draw k) v d = one-bracketed (labelled (ascii "draw ") k) (one-labelled (ascii "draw ") k refl)
+call-one (Accept n) v d = one-numbered (ascii "accept ") n.0 (names_of Sludge) v refl refl
 
 pub entry-one : TextLineLaw
 unfolding one_line

@@ -14,7 +14,8 @@
 --   read_step, left-text            fields that are read, one by one
 --   fields-only                     all of them
 --   CallIs                          what is to be shown of a call
---   receive-only, settle-only       a call with fields
+--   receive-only, numbered-only,    a call with fields
+--   settle-only, accept-only
 --   Words, look-only, number-only   a call with a number alone
 --   form-only, call-only            any call
 --   LineIs, line-only               and any line
@@ -35,8 +36,8 @@ use Rattle.vectors.proofs.Laws.Columns.{same_at}
 use Rattle.std.proofs.lemmas.Bool.{and_parts}
 use Rattle.std.proofs.lemmas.Option.{none-some}
 use Rattle.plant.specs.declared.answer.Call.{Call}
-use Rattle.plant.specs.declared.answer.Call.TheVariants.{Receive, Feed, Settle, Return, Release, Recycle}
-use Rattle.std.proofs.Common.{Option, Some, None, option_and_then}
+use Rattle.plant.specs.declared.answer.Call.TheVariants.{Receive, Feed, Settle, Return, Release, Recycle, Draw, Accept}
+use Rattle.std.proofs.Common.{Option, Some, None, option_map, option_and_then}
 use Rattle.reading.specs.declared.names.Vector.TheVariants.{Sludge, Digester}
 use Rattle.reading.specs.declared.fields.Field.{Field}
 use Rattle.reading.specs.declared.fields.Fields.{Fields}
@@ -46,7 +47,7 @@ use Rattle.reading.specs.Number.{read_number, decimal}
 use Rattle.reading.specs.Names.{names_of, column_from, column_of}
 use Rattle.reading.specs.Form.{field, field_of, read_field, read_piece, no_fields, add_field, column_in, number_in}
 use Rattle.reading.specs.Form.{read_pieces, from_fields, rises, read_fields, field_from, no_form, receive_line}
-use Rattle.reading.specs.Form.{settle_line, number_words, number_line, settle_part, settle_by, form_of}
+use Rattle.reading.specs.Form.{settle_line, accept_line, number_words, number_line, paired, numbered_by, fields_part, form_of}
 use Rattle.reading.specs.Line.{in_brackets, inner, call_by, preview_line, is_preview, form_in, read_line}
 use Rattle.reading.specs.Line.{bracketed, preview_text, form_passes, call_passes}
 use Rattle.reading.proofs.Laws.Text.{same-equal, up_to-take, up_to-length, pieces-some}
@@ -370,6 +371,12 @@ asm1-text : (w : List ℕ) → fields_text (names_of Sludge) w ≡ fields_text (
 unfolding columns_from
 asm1-text w = refl
 
+-- a pair is there where both are
+paired-is : (x : Option ℕ) (y : Option Fields) (n : ℕ) (f : Fields) → paired x y ≡ Some (n, f) → (x ≡ Some n) × (y ≡ Some f)
+paired-is (Some a) (Some b) n f e = (ap (option_map (λ (p : ℕ × Fields). p.0)) e, ap (option_map (λ (p : ℕ × Fields). p.1)) e)
+paired-is (Some a) None n f e = absurd (none-some _ e)
+paired-is None y n f e = absurd (none-some _ e)
+
 module _ (t : List ℕ) where
   receive-only : same_bytes (up_to 32 t) (ascii "receive") ≡ true → fields_no_zero (names_of Sludge) (drop (length (up_to 32 t)) t) ≡ true
       → CallIs (bracketed t) (receive_line (read_fields (names_of Sludge) (drop (length (up_to 32 t)) t)))
@@ -384,30 +391,38 @@ module _ (t : List ℕ) where
       )
       go None q = tt
 
-  settle-only : same_bytes (up_to 32 t) (ascii "settle") ≡ true → fields_no_zero (names_of Digester) (settle_part (behind 32 t)) ≡ true
-      → CallIs (bracketed t) (settle_by read_fields (behind 32 t))
-  unfolding settle_by
-  settle-only e z = go (read_number (up_to 32 u)) refl
+  -- a word w, a number and the fields f of these names
+  numbered-only : (w : List ℕ) (names : List (List ℕ)) → same_bytes (up_to 32 t) w ≡ true
+      → fields_no_zero names (fields_part (behind 32 t)) ≡ true
+      → (n : ℕ) (f : Fields) → numbered_by read_fields names (behind 32 t) ≡ Some (n, f)
+      → t ≡ w ++ (32 ∷ (decimal n ++ fields_text names f.columns))
+  unfolding numbered_by
+  numbered-only w names e z n f q =
+      let u = behind 32 t in
+      let both = paired-is (read_number (up_to 32 u)) (read_fields names (fields_part u)) n f q in
+      let d = decimal-only (up_to 32 u) n both.0 in
+      behind-split 32 t (omega (arith, ap length d, (decimal-digits n).1, up_to-length 32 u))
+      ∙ ap₂ (λ (x y : List ℕ). x ++ (32 ∷ y)) (same-equal (up_to 32 t) w e)
+      (word_split u (decimal n) d ∙ ap (λ (x : List ℕ). decimal n ++ x) (fields-only names (fields_part u) f z both.1))
+
+  settle-only : same_bytes (up_to 32 t) (ascii "settle") ≡ true → fields_no_zero (names_of Digester) (fields_part (behind 32 t)) ≡ true
+      → CallIs (bracketed t) (settle_line (numbered_by read_fields (names_of Digester) (behind 32 t)))
+  settle-only e z = go (numbered_by read_fields (names_of Digester) (behind 32 t)) refl
     where
-      u : List ℕ
-      u = behind 32 t
+      go : (r : Option (ℕ × Fields)) → numbered_by read_fields (names_of Digester) (behind 32 t) ≡ r
+          → CallIs (bracketed t) (settle_line r)
+      go (Some p) q = (refl, ap bracketed (numbered-only (ascii "settle") (names_of Digester) e z p.0 p.1 q))
+      go None q = tt
 
-      text : (g : ℕ) (f : Fields) → read_number (up_to 32 u) ≡ Some g → read_fields (names_of Digester) (settle_part u) ≡ Some f
-          → t ≡ ascii "settle " ++ (decimal g ++ fields_text (names_of Digester) f.columns)
-      text g f q o =
-          let d = decimal-only (up_to 32 u) g q in
-          behind-split 32 t (omega (arith, ap length d, (decimal-digits g).1, up_to-length 32 u))
-          ∙ ap₂ (λ (x y : List ℕ). x ++ (32 ∷ y)) (same-equal (up_to 32 t) (ascii "settle") e)
-          (word_split u (decimal g) d ∙ ap (λ (x : List ℕ). decimal g ++ x) (fields-only (names_of Digester) (settle_part u) f z o))
-
-      fits : (g : ℕ) → read_number (up_to 32 u) ≡ Some g → (r : Option Fields) → read_fields (names_of Digester) (settle_part u) ≡ r
-          → CallIs (bracketed t) (settle_line (Some g) r)
-      fits g q (Some f) o = (refl, ap bracketed (text g f q o))
-      fits g q None o = tt
-
-      go : (n : Option ℕ) → read_number (up_to 32 u) ≡ n
-          → CallIs (bracketed t) (settle_line n (read_fields (names_of Digester) (settle_part u)))
-      go (Some g) q = fits g q (read_fields (names_of Digester) (settle_part u)) refl
+  accept-only : same_bytes (up_to 32 t) (ascii "accept") ≡ true → fields_no_zero (names_of Sludge) (fields_part (behind 32 t)) ≡ true
+      → CallIs (bracketed t) (accept_line (numbered_by read_fields (names_of Sludge) (behind 32 t)))
+  accept-only e z = go (numbered_by read_fields (names_of Sludge) (behind 32 t)) refl
+    where
+      go : (r : Option (ℕ × Fields)) → numbered_by read_fields (names_of Sludge) (behind 32 t) ≡ r
+          → CallIs (bracketed t) (accept_line r)
+      go (Some p) q =
+          let text = numbered-only (ascii "accept") (names_of Sludge) e z p.0 p.1 q in
+          (refl, ap bracketed (text ∙ ap (λ (x : List ℕ). ascii "accept " ++ (decimal p.0 ++ x)) (asm1-text p.1.columns)))
       go None q = tt
 
 -- each word of a table means a call with the number k
@@ -433,23 +448,30 @@ number-only : (t : List ℕ) → CallIs (bracketed t) (number_line (up_to 32 t) 
 number-only t = go (read_number (behind 32 t)) refl
   where
     go : (n : Option ℕ) → read_number (behind 32 t) ≡ n → CallIs (bracketed t) (number_line (up_to 32 t) n)
-    go (Some k) e = look-only t k e (number_words k) ((refl, refl), ((refl, refl), ((refl, refl), ((refl, refl), tt))))
+    go (Some k) e = look-only t k e (number_words k) ((refl, refl), ((refl, refl), ((refl, refl), ((refl, refl), ((refl, refl), tt)))))
     go None e = tt
 
 form-only : (t : List ℕ) → form_passes fields_no_zero (up_to 32 t) t ≡ true → CallIs (bracketed t) (form_of read_fields (up_to 32 t) t)
 unfolding form_of form_passes
-form-only t h = go (same_bytes (up_to 32 t) (ascii "receive")) (same_bytes (up_to 32 t) (ascii "settle")) refl refl h
+form-only t h =
+    go (same_bytes (up_to 32 t) (ascii "receive")) (same_bytes (up_to 32 t) (ascii "settle")) (same_bytes (up_to 32 t) (ascii "accept"))
+    refl refl refl h
   where
-    go : (a b : Bool) → same_bytes (up_to 32 t) (ascii "receive") ≡ a → same_bytes (up_to 32 t) (ascii "settle") ≡ b
+    go : (a b c : Bool) → same_bytes (up_to 32 t) (ascii "receive") ≡ a → same_bytes (up_to 32 t) (ascii "settle") ≡ b
+        → same_bytes (up_to 32 t) (ascii "accept") ≡ c
         → cond a (fields_no_zero (names_of Sludge) (drop (length (up_to 32 t)) t))
-        (cond b (fields_no_zero (names_of Digester) (settle_part (behind 32 t))) true)
+        (cond b (fields_no_zero (names_of Digester) (fields_part (behind 32 t)))
+        (cond c (fields_no_zero (names_of Sludge) (fields_part (behind 32 t))) true))
         ≡ true
         → CallIs (bracketed t)
         (cond a (receive_line (read_fields (names_of Sludge) (drop (length (up_to 32 t)) t)))
-        (cond b (settle_by read_fields (behind 32 t)) (number_line (up_to 32 t) (read_number (behind 32 t)))))
-    go true b p q z = receive-only t p z
-    go false true p q z = settle-only t q z
-    go false false p q z = number-only t
+        (cond b (settle_line (numbered_by read_fields (names_of Digester) (behind 32 t)))
+        (cond c (accept_line (numbered_by read_fields (names_of Sludge) (behind 32 t)))
+        (number_line (up_to 32 t) (read_number (behind 32 t))))))
+    go true b c p q r z = receive-only t p z
+    go false true c p q r z = settle-only t q z
+    go false false true p q r z = accept-only t r z
+    go false false false p q r z = number-only t
 
 call-only : (u : List ℕ) → call_passes fields_no_zero u ≡ true → CallIs u (call_by read_fields u)
 unfolding call_by
@@ -500,3 +522,5 @@ entry-only b r s e z = go r.call (subst (LineIs s) e (line-only s z))
     go (Return k) h = h
     go (Release k) h = h
     go (Recycle k) h = h
+    go (Draw k) h = h
+    go (Accept n) h = h

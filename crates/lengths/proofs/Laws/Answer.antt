@@ -1,10 +1,11 @@
 -- Laws of the lengths of answers. Assumes nothing.
 --
---   refused-length, fed-length, returned-length   an answer that tells numbers: its labels' bytes and the digits
+--   refused-length, fed-length, returned-length,  an answer that tells numbers: its labels' bytes and the digits
+--   accepted-length
 --   totals-length                                 the held line
 --   name-length                                   a name of the code's table, without the spaces behind it
---   columns-next, columns-end                     the columns of a release, one by one
---   released-length                               a release
+--   columns-next, columns-end                     the columns of a vector, one by one
+--   handed-length                                 a vector that is handed out
 use mathlib.Core.Bool.{true}
 use mathlib.Core.List.{List, [], ◌∷◌, ◌++◌}
 use mathlib.Core.Path.{◌≡◌, refl, sym, ap, ◌∙◌}
@@ -20,7 +21,7 @@ use Rattle.reading.specs.Text.{ascii, up_to}
 use Rattle.reading.specs.Number.{decimal}
 use Rattle.reading.specs.Names.{names_of, unpadded}
 use Rattle.writing.specs.Answer.{labelled, column_text, column_or_none, columns_from, columns_text, told_text}
-use Rattle.writing.specs.Answer.{fed_text, returned_text, released_text, refused_text, totals_text}
+use Rattle.writing.specs.Answer.{fed_text, returned_text, accepted_text, handed_text, refused_text, totals_text}
 
 abbrev digits : ℕ → ℕ
 digits n = length (decimal n)
@@ -47,11 +48,14 @@ fed-length b o n w = told-length _
 pub returned-length : (s : ℕ) → length (returned_text s) ≡ 20 + digits s + 1
 returned-length s = told-length _
 
+pub accepted-length : (m : ℕ) → length (accepted_text m) ≡ 14 + digits m + 1
+accepted-length m = told-length _
+
 pub totals-length : (c t o n : ℕ)
     → length (totals_text c t o n) ≡ 10 + digits c + (5 + digits t + (8 + digits o + (9 + digits n + 1)))
 totals-length c t o n = told-length _
 
--- ---- a release
+-- ---- a vector that is handed out
 
 column-length : (name : List ℕ) (n : ℕ) → length (column_or_none true name n) ≡ 4 + length name + digits n
 unfolding column_or_none column_text
@@ -84,6 +88,8 @@ pub columns-end : (names : List (List ℕ)) (v : List ℕ) (c : ℕ) → length 
 unfolding columns_from
 columns-end names v c h = ap (λ (ns : List (List ℕ)). length (columns_from true c ns v)) (drop_of_length-le names h)
 
-pub released-length : (v : List ℕ) → length (released_text v) ≡ 12 + length (columns_text true (names_of Sludge) v)
-unfolding released_text
-released-length v = omega (arith, length-append (columns_text true (names_of Sludge) v) (ascii ")"))
+pub handed-length : (head v : List ℕ) → length (handed_text head v) ≡ length head + length (columns_text true (names_of Sludge) v) + 1
+unfolding handed_text
+handed-length head v =
+    let columns = columns_text true (names_of Sludge) v in
+    omega (arith, length-append head (columns ++ ascii ")"), length-append columns (ascii ")"))

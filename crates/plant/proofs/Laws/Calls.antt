@@ -39,7 +39,8 @@ use Rattle.plant.specs.declared.answer.Told.{Told}
 use Rattle.plant.specs.Record.{record_refusal}
 use Rattle.plant.specs.Answer.{told, refused_with, outcome_of}
 use Rattle.plant.specs.Calls.{fed_tests, fed, fed_told, returned_tests, returned, returned_told}
-use Rattle.plant.specs.Calls.{receive, feed, settle, give_back, release, recycle, rule_by, ruled, step_by, step, preview_of}
+use Rattle.plant.specs.Calls.{receive, feed, settle, give_back, release, recycle, draw, accept}
+use Rattle.plant.specs.Calls.{rule_by, ruled, step_by, step, preview_of}
 use Rattle.plant.specs.Calls.{refusal_for, tells_by, told_by, told_for, settling}
 use Rattle.plant.specs.Calls.{TellsLaw, ExactLaw, FiguresLaw}
 use Rattle.plant.proofs.Laws.Decision.{decide-case, draw-passed, number-passed-by, number-passed}
@@ -58,7 +59,7 @@ returned-told p (Err n) r = ((λ e. absurd (cc e)), refl)
 -- what each call tells where no refusal applies, which is no number: a further call is one more row
 tells-by : (p : Plant) (c : Call) (v d : List ℕ)
     → (first (rule_by p c v d).tests ≡ None → told (rule_by p c v d).done.answer ≡ tells_by p c) × ((tells_by p c).number ≡ 0)
-unfolding receive feed settle give_back release recycle
+unfolding receive feed settle give_back release recycle draw accept
 tells-by p call.Receive v d = ((λ e. refl), refl)
 tells-by p (call.Feed k) v d =
     let t = fed-told p (feed_of p.figures (drawn k p.sludge)) (rest k p.sludge) in
@@ -69,6 +70,8 @@ tells-by p (call.Return k) v d =
     ((λ e. t.0 (draw-passed p k (returned_tests p (return_of p.figures (drawn k p.digester))) e).1), t.1)
 tells-by p (call.Release k) v d = ((λ e. refl), refl)
 tells-by p (call.Recycle k) v d = ((λ e. refl), refl)
+tells-by p (call.Draw k) v d = ((λ e. refl), refl)
+tells-by p (call.Accept n) v d = ((λ e. refl), refl)
 
 -- a decision tells its refusal, or what its outcome tells
 decide-told : (p : Plant) (t : Option Refusal) (o : Outcome) (w : Told) → (t ≡ None → told o.answer ≡ w)
@@ -94,7 +97,7 @@ returned-sent p (Err n) r e = absurd (cc e)
 
 sent-by : (p : Plant) (c : Call) (v d : List ℕ) → first (rule_by p c v d).tests ≡ None
     → refused_with (rule_by p c v d).done.answer ≡ None
-unfolding receive feed settle give_back release recycle
+unfolding receive feed settle give_back release recycle draw accept
 sent-by p call.Receive v d e = refl
 sent-by p (call.Feed k) v d e =
     let x = feed_of p.figures (drawn k p.sludge) in
@@ -105,6 +108,8 @@ sent-by p (call.Return k) v d e =
     returned-sent p x (rest k p.digester) (draw-passed p k (returned_tests p x) e).1
 sent-by p (call.Release k) v d e = refl
 sent-by p (call.Recycle k) v d e = refl
+sent-by p (call.Draw k) v d e = refl
+sent-by p (call.Accept n) v d e = refl
 
 decide-sent : (p : Plant) (t : Option Refusal) (o : Outcome) → (t ≡ None → refused_with o.answer ≡ None)
     → refused_with (outcome_of p (decide t o)).answer ≡ t
@@ -139,13 +144,15 @@ returned-figures p (Ok o) r = refl
 returned-figures p (Err n) r = refl
 
 done-figures : (p : Plant) (c : Call) (v d : List ℕ) → (rule_by p c v d).done.plant.figures ≡ p.figures
-unfolding receive feed settle give_back release recycle
+unfolding receive feed settle give_back release recycle draw accept
 done-figures p call.Receive v d = refl
 done-figures p (call.Feed k) v d = fed-figures p (feed_of p.figures (drawn k p.sludge)) (rest k p.sludge)
 done-figures p (call.Settle gas) v d = refl
 done-figures p (call.Return k) v d = returned-figures p (return_of p.figures (drawn k p.digester)) (rest k p.digester)
 done-figures p (call.Release k) v d = refl
 done-figures p (call.Recycle k) v d = refl
+done-figures p (call.Draw k) v d = refl
+done-figures p (call.Accept n) v d = refl
 
 pub figures-kept : FiguresLaw
 unfolding step_by ruled

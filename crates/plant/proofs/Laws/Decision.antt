@@ -4,6 +4,7 @@
 --   stop-by, pass-by              a refusal sends away; where there is none, the decision is left to the next
 --   stop, pass                    the same of a test: one that fails sends away
 --   room-lost, room-found         the sum of two vectors, or its refusal, tells of the test
+--   summed                        what the sludge tank would hold with a vector, or none
 --   stop-first, pass-first, last-is   the same where tests give a refusal or none, and what the last one gives
 --   flag                          a test of what a function gave is a test of what it stands for
 --   decide-case                   what holds of the outcome where no refusal applies, and of every refusal, holds of the decision
@@ -21,6 +22,7 @@ use Rattle.refusals.specs.declared.Refusal.{Refusal}
 use Rattle.refusals.specs.declared.Refusal.TheVariants.{NotThousandths}
 use Rattle.refusals.specs.Refusal.{number, number_of}
 use Rattle.refusals.specs.Tests.{unless, first, decide}
+use Rattle.vectors.specs.Columns.{asm1_ceilings, within, added}
 use Rattle.interface.proofs.Laws.Whole.{err-is}
 use Rattle.plant.specs.declared.record.Plant.{Plant}
 use Rattle.plant.specs.declared.answer.Outcome.{Outcome}
@@ -69,6 +71,10 @@ module _ {A : Type 0} (s : A) (r : Refusal) where
       go : (b : Bool) → Ok y ≡ ok_or (cond b (Some s) None) r → (b ≡ true) × (y ≡ s)
       go true h = (refl, cc h)
       go false h = absurd (cc h)
+
+-- the sludge tank with a vector, or none where a column would pass its ceiling
+abbrev pub summed : Plant → List ℕ → Option (List ℕ)
+summed p v = cond (within asm1_ceilings (added p.sludge v)) (Some (added p.sludge v)) None
 
 -- a flag that a function gave, and the test of it
 pub flag : {b r v : Bool} → r ≡ b → r ≡ v → b ≡ v

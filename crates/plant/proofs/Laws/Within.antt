@@ -2,17 +2,18 @@
 --
 --   tanks-within                  three tanks within their ceilings are a record within its own
 --   fed-within, returned-within   what becomes of a conversion is such a record where no refusal applies
+--   filled, handed                what is added to sludge, and what is drawn from reject, leave such a record
 --   done-within                   each call leaves such a record where no refusal applies
 --   step-within                   any call does
 --   fresh-within                  a fresh record is one
-use mathlib.Core.Bool.{true}
+use mathlib.Core.Bool.{Bool, true}
 use mathlib.Core.List.{List, [], ◌∷◌}
 use mathlib.Core.Path.{◌≡◌, refl}
 use Prim.Native.Nat.{ℕ}
 use Rattle.vectors.proofs.Laws.Draw.{within-rest}
 use Rattle.vectors.specs.declared.figures.Figures.{Figures}
 use Rattle.vectors.specs.Columns.{asm1_ceilings, digester_ceilings, within, added}
-use Rattle.vectors.specs.Draw.{drawn}
+use Rattle.vectors.specs.Draw.{drawn, rest}
 use Rattle.plant.specs.declared.record.Plant.{Plant}
 use Rattle.plant.specs.declared.answer.Call.{Call}
 use Rattle.plant.specs.declared.answer.Call.TheVariants as call
@@ -25,7 +26,8 @@ use Rattle.refusals.specs.declared.Refusal.TheVariants.{ColumnAbove, TankAbove}
 use Rattle.refusals.specs.Tests.{unless, first}
 use Rattle.interface.specs.declared.feed.Fed.{Fed}
 use Rattle.interface.specs.declared.returning.Returned.{Returned}
-use Rattle.plant.specs.Calls.{receive, feed, settle, give_back, release, recycle, rule_by, ruled, step_by, step}
+use Rattle.plant.specs.Calls.{receive, feed, settle, give_back, release, recycle, draw, accept, rule_by, ruled, step_by, step}
+use Rattle.plant.specs.Nitrite.{acceptable, with_nitrite}
 use Rattle.interface.specs.Feed.{feed_of}
 use Rattle.interface.specs.Return.{return_of}
 use Rattle.plant.specs.Calls.{settled_tests, fed_tests, fed, returned_tests, returned}
@@ -56,14 +58,25 @@ module _ (p : Plant) (h : record_within p ≡ true) where
       tanks-within _ (sludge-within p h) w (passed (within asm1_ceilings (added p.reject o.vector)) TankAbove [] e).0
   returned-within (Err n) r w e = absurd (cc e)
 
+  -- a vector w is added to the sludge tank, once b holds of what is handed over
+  filled : (b : Bool) (w : List ℕ)
+      → first (record_refusal p ∷ unless b ColumnAbove ∷ unless (within asm1_ceilings (added p.sludge w)) TankAbove ∷ []) ≡ None
+      → record_within (record { sludge = added p.sludge w; digester = p.digester; reject = p.reject; figures = p.figures }) ≡ true
+  filled b w e =
+      let fits = unless (within asm1_ceilings (added p.sludge w)) TankAbove ∷ [] in
+      let at-columns = (passed-by (record_refusal p) (unless b ColumnAbove ∷ fits) e).1 in
+      let at-tank = (passed b ColumnAbove fits at-columns).1 in
+      tanks-within _ (passed (within asm1_ceilings (added p.sludge w)) TankAbove [] at-tank).0 (digester-within p h) (reject-within p h)
+
+  -- what is drawn from reject leaves it within its ceilings
+  handed : (k : ℕ)
+      → record_within (record { sludge = p.sludge; digester = p.digester; reject = rest k p.reject; figures = p.figures }) ≡ true
+  handed k = tanks-within _ (sludge-within p h) (digester-within p h) (within-rest k asm1_ceilings p.reject (reject-within p h))
+
   -- each call where no refusal applies: a further call is one more row
   done-within : (c : Call) (v d : List ℕ) → first (rule_by p c v d).tests ≡ None → Stays (rule_by p c v d).done
-  unfolding receive feed settle give_back release recycle
-  done-within call.Receive v d e =
-      let fits = unless (within asm1_ceilings (added p.sludge v)) TankAbove ∷ [] in
-      let e1 = (passed-by (record_refusal p) (unless (within asm1_ceilings v) ColumnAbove ∷ fits) e).1 in
-      let e2 = (passed (within asm1_ceilings v) ColumnAbove fits e1).1 in
-      tanks-within _ (passed (within asm1_ceilings (added p.sludge v)) TankAbove [] e2).0 (digester-within p h) (reject-within p h)
+  unfolding receive feed settle give_back release recycle draw accept
+  done-within call.Receive v d e = filled (within asm1_ceilings v) v e
   done-within (call.Feed k) v d e =
       let x = feed_of p.figures (drawn k p.sludge) in
       fed-within x _ (within-rest k asm1_ceilings p.sludge (sludge-within p h)) (draw-passed p k (fed_tests p x) e).1
@@ -75,12 +88,13 @@ module _ (p : Plant) (h : record_within p ≡ true) where
   done-within (call.Return k) v d e =
       let x = return_of p.figures (drawn k p.digester) in
       returned-within x _ (within-rest k digester_ceilings p.digester (digester-within p h)) (draw-passed p k (returned_tests p x) e).1
-  done-within (call.Release k) v d e =
-      tanks-within _ (sludge-within p h) (digester-within p h) (within-rest k asm1_ceilings p.reject (reject-within p h))
+  done-within (call.Release k) v d e = handed k
   done-within (call.Recycle k) v d e =
-      let filled = within asm1_ceilings (added p.sludge (drawn k p.reject)) in
-      let fits = (passed filled TankAbove [] (draw-passed p k (unless filled TankAbove ∷ []) e).1).0 in
+      let room = within asm1_ceilings (added p.sludge (drawn k p.reject)) in
+      let fits = (passed room TankAbove [] (draw-passed p k (unless room TankAbove ∷ []) e).1).0 in
       tanks-within _ fits (digester-within p h) (within-rest k asm1_ceilings p.reject (reject-within p h))
+  done-within (call.Draw k) v d e = handed k
+  done-within (call.Accept n) v d e = filled (acceptable v n) (with_nitrite v n) e
 
 pub step-within : (p : Plant) (r : Request) → record_within p ≡ true → record_within (step p r).plant ≡ true
 unfolding step_by ruled

@@ -4,7 +4,7 @@ use Rattle.reading.specs.Text.{same_bytes, look_up, up_to, behind, on_first, pie
 use Rattle.reading.specs.Number.{all_digits, value_after, leads, read_after, read_number}
 use Rattle.reading.specs.Names.{column_from}
 use Rattle.reading.specs.Form.{read_field, read_piece, add_field, read_pieces, from_fields, rises}
-use Rattle.reading.specs.Form.{settle_by, form_of}
+use Rattle.reading.specs.Form.{numbered_by, form_of}
 use Rattle.reading.specs.Line.{in_brackets, call_by, is_preview, read_line}
 use Rattle.reading.specs.Examples.{ExamplesHold}
 
@@ -14,16 +14,20 @@ a also b = (a, b)
 
 pub examples-hold : ExamplesHold
 unfolding same_bytes look_up up_to behind on_first pieces all_digits value_after leads read_after read_number column_from
-    read_field read_piece add_field read_pieces from_fields rises settle_by form_of in_brackets call_by is_preview read_line
+    read_field read_piece add_field read_pieces from_fields rises numbered_by form_of in_brackets call_by is_preview read_line
 examples-hold =
-    refl also refl also refl also refl also refl also refl also refl also refl also refl also refl also refl also refl also refl
+    refl also refl also refl also refl also refl also refl also refl also refl also refl also refl also refl also refl
     also
-    refl also refl also refl also refl also refl also refl also refl also refl also refl also refl also refl also refl also refl
+    refl also refl also refl also refl also refl also refl also refl also refl also refl also refl also refl also refl
     also
-    refl also refl also refl also refl also refl also refl also refl also refl also refl also refl also refl also refl also refl
+    refl also refl also refl also refl also refl also refl also refl also refl also refl also refl also refl also refl
     also
-    refl also refl also refl also refl also refl also refl also refl also refl also refl also refl also refl also refl also refl
+    refl also refl also refl also refl also refl also refl also refl also refl also refl also refl also refl also refl
     also
-    refl also refl also refl also refl also refl also refl also refl also refl also refl also refl also refl also refl also refl
+    refl also refl also refl also refl also refl also refl also refl also refl also refl also refl also refl also refl
     also
-    refl also refl also refl also refl also refl also refl also refl also refl also refl also refl also refl also tt
+    refl also refl also refl also refl also refl also refl also refl also refl also refl also refl also refl also refl
+    also
+    refl also refl also refl also refl also refl also refl also refl also refl also refl also refl also refl also refl
+    also
+    refl also refl also refl also refl also tt

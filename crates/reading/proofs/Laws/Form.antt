@@ -6,7 +6,8 @@
 --   left                                        what is left to read in a loop over fields
 --   left_step                                   one piece of it
 --   left-unclosed, left-next, left_end          one turn of that loop
---   form-receive, form-settle, form-number, ..  a form, by the place of its first space
+--   numbered-split                              a number and fields, by the place of the space
+--   form-receive, form-settle, form-accept, form-number   a form, by the place of its first space
 use mathlib.Core.Bool.{Bool, true, false, cond, ◌&&◌, false≢true}
 use mathlib.Core.List.{List, [], ◌∷◌}
 use mathlib.Core.Path.{◌≡◌, refl, sym, ap, ap₂, ◌∙◌}
@@ -27,8 +28,7 @@ use Rattle.reading.specs.Number.{read_number}
 use Rattle.reading.specs.Names.{names_of, column_of, from_column}
 use Rattle.reading.specs.Form.{field_of, read_field, read_piece, field, add_field, column_in, number_in, at_end}
 use Rattle.reading.specs.Form.{read_pieces, from_fields, named, rises, read_fields, field_from}
-use Rattle.reading.specs.Form.{receive_line, settle_line, number_line}
-use Rattle.reading.specs.Form.{settle_by, form_of, form_by}
+use Rattle.reading.specs.Form.{receive_line, settle_line, accept_line, number_line, paired, numbered_by, form_of, form_by}
 use Rattle.reading.proofs.Laws.Text.{up_to-place, behind-next, pieces-cut, pieces-last, pieces-some}
 use Rattle.reading.proofs.Laws.Number.{number-empty}
 
@@ -198,10 +198,10 @@ module _ (t : List ℕ) (k : ℕ) (e : k ≡ length (up_to 32 t)) where
   pub rest_part : take (length t - k) (drop k t) ≡ drop (length (up_to 32 t)) t
   rest_part = take_rest t k ∙ ap (λ (j : ℕ). drop j t) e
 
-  pub settle-split : settle_line (read_number (take k t)) (read_fields (names_of Digester) (take (length t - k) (drop k t)))
-      ≡ settle_by read_fields t
-  unfolding settle_by
-  settle-split = ap₂ (λ (x y : List ℕ). settle_line (read_number x) (read_fields (names_of Digester) y)) (up_to-place 32 t k e) rest_part
+  pub numbered-split : (names : List (List ℕ))
+      → paired (read_number (take k t)) (read_fields names (take (length t - k) (drop k t))) ≡ numbered_by read_fields names t
+  unfolding numbered_by
+  numbered-split names = ap₂ (λ (x y : List ℕ). paired (read_number x) (read_fields names y)) (up_to-place 32 t k e) rest_part
 
   -- a word test of the code is one of the definition
   word-is : (w : List ℕ) {b : Bool} → same_bytes (take k t) w ≡ b → same_bytes (up_to 32 t) w ≡ b
@@ -213,11 +213,20 @@ module _ (t : List ℕ) (k : ℕ) (e : k ≡ length (up_to 32 t)) where
   form-receive h = rw (word-is _ h) (ap (λ (x : List ℕ). receive_line (read_fields (names_of Sludge) x)) rest_part)
 
   pub form-settle : same_bytes (take k t) (ascii "receive") ≡ false → same_bytes (take k t) (ascii "settle") ≡ true
-      → settle_by read_fields (behind 32 t) ≡ form_by read_fields t
+      → settle_line (numbered_by read_fields (names_of Digester) (behind 32 t)) ≡ form_by read_fields t
   unfolding form_of
   form-settle h i = rw (word-is _ h, word-is _ i)
 
+  pub form-accept : same_bytes (take k t) (ascii "receive") ≡ false → same_bytes (take k t) (ascii "settle") ≡ false
+      → same_bytes (take k t) (ascii "accept") ≡ true
+      → accept_line (numbered_by read_fields (names_of Sludge) (behind 32 t)) ≡ form_by read_fields t
+  unfolding form_of
+  form-accept h i j = rw (word-is _ h, word-is _ i, word-is _ j)
+
   pub form-number : same_bytes (take k t) (ascii "receive") ≡ false → same_bytes (take k t) (ascii "settle") ≡ false
+      → same_bytes (take k t) (ascii "accept") ≡ false
       → number_line (take k t) (read_number (behind 32 t)) ≡ form_by read_fields t
   unfolding form_of
-  form-number h i = rw (word-is _ h, word-is _ i) (ap (λ (x : List ℕ). number_line x (read_number (behind 32 t))) (up_to-place 32 t k e))
+  form-number h i j =
+      rw (word-is _ h, word-is _ i, word-is _ j)
+      (ap (λ (x : List ℕ). number_line x (read_number (behind 32 t))) (up_to-place 32 t k e))

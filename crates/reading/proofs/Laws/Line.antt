@@ -24,8 +24,8 @@ use Rattle.reading.specs.declared.form.Asked.{Asked}
 use Rattle.reading.specs.Text.{ascii, same_bytes, look_up, up_to, behind}
 use Rattle.reading.specs.Number.{read_number}
 use Rattle.reading.specs.Names.{names_of}
-use Rattle.reading.specs.Form.{any_fields, in_order, read_fields, no_form, receive_line, settle_line, number_line}
-use Rattle.reading.specs.Form.{settle_part, settle_by, form_of, form_by}
+use Rattle.reading.specs.Form.{any_fields, in_order, read_fields, no_form, receive_line, settle_line, accept_line, number_line}
+use Rattle.reading.specs.Form.{paired, numbered_by, fields_part, form_of, form_by}
 use Rattle.reading.specs.Line.{in_brackets, inner, call_by, preview_line, is_preview, form_in, read_line}
 use Rattle.reading.specs.Line.{bracketed, preview_text, PreviewFormLaw, form_passes, call_passes, OrderLaw}
 use Rattle.reading.proofs.Laws.Text.{same-equal}
@@ -201,34 +201,49 @@ preview-form-law u h =
 
 -- ---- the order of the fields
 
--- a line of fields that are read only where they are in order
-receive-when : (b : Bool) (f : Option Fields) → receive_line (cond b f None) ≡ cond b (receive_line f) no_form
-receive-when true f = refl
-receive-when false f = refl
+-- a line of what is read only where it is in order
+line-when : {A : Type 0} (line : Option A → Option Asked) → line None ≡ no_form → (b : Bool) (x : Option A)
+    → line (cond b x None) ≡ cond b (line x) no_form
+line-when line none true x = refl
+line-when line none false x = none
 
-settle-when : (b : Bool) (n : Option ℕ) (f : Option Fields) → settle_line n (cond b f None) ≡ cond b (settle_line n f) no_form
-settle-when true n f = refl
-settle-when false (Some g) f = refl
-settle-when false None f = refl
+paired-when : (n : Option ℕ) (b : Bool) (f : Option Fields) → paired n (cond b f None) ≡ cond b (paired n f) None
+paired-when n true f = refl
+paired-when (Some n) false f = refl
+paired-when None false f = refl
 
--- the three kinds of form: with the tests of their words as they are
+-- a number, and fields behind it
+numbered-when : (line : Option (ℕ × Fields) → Option Asked) → line None ≡ no_form → (names : List (List ℕ)) (u : List ℕ)
+    → line (numbered_by read_fields names u) ≡ cond (in_order names (fields_part u)) (line (numbered_by any_fields names u)) no_form
+unfolding numbered_by
+numbered-when line none names u =
+    let n = read_number (up_to 32 u) in
+    let b = in_order names (fields_part u) in
+    let f = any_fields names (fields_part u) in
+    ap line (paired-when n b f) ∙ line-when line none b (paired n f)
+
+-- the four kinds of form: with the tests of their words as they are
 form-ordered : (w t : List ℕ) → form_of read_fields w t ≡ cond (form_passes in_order w t) (form_of any_fields w t) no_form
-unfolding form_of form_passes settle_by
-form-ordered w t = go (same_bytes w (ascii "receive")) (same_bytes w (ascii "settle"))
+unfolding form_of form_passes
+form-ordered w t = go (same_bytes w (ascii "receive")) (same_bytes w (ascii "settle")) (same_bytes w (ascii "accept"))
   where
-    go : (a b : Bool)
+    go : (a b c : Bool)
         → cond a (receive_line (read_fields (names_of Sludge) (drop (length w) t)))
-        (cond b (settle_by read_fields (behind 32 t)) (number_line w (read_number (behind 32 t))))
+        (cond b (settle_line (numbered_by read_fields (names_of Digester) (behind 32 t)))
+        (cond c (accept_line (numbered_by read_fields (names_of Sludge) (behind 32 t))) (number_line w (read_number (behind 32 t)))))
         ≡ cond
-        (cond a (in_order (names_of Sludge) (drop (length w) t)) (cond b (in_order (names_of Digester) (settle_part (behind 32 t))) true))
+        (cond a (in_order (names_of Sludge) (drop (length w) t))
+        (cond b (in_order (names_of Digester) (fields_part (behind 32 t)))
+        (cond c (in_order (names_of Sludge) (fields_part (behind 32 t))) true)))
         (cond a (receive_line (any_fields (names_of Sludge) (drop (length w) t)))
-        (cond b (settle_by any_fields (behind 32 t)) (number_line w (read_number (behind 32 t)))))
+        (cond b (settle_line (numbered_by any_fields (names_of Digester) (behind 32 t)))
+        (cond c (accept_line (numbered_by any_fields (names_of Sludge) (behind 32 t))) (number_line w (read_number (behind 32 t))))))
         no_form
-    go true b = receive-when (in_order (names_of Sludge) (drop (length w) t)) (any_fields (names_of Sludge) (drop (length w) t))
-    go false true =
-        settle-when (in_order (names_of Digester) (settle_part (behind 32 t))) (read_number (up_to 32 (behind 32 t)))
-        (any_fields (names_of Digester) (settle_part (behind 32 t)))
-    go false false = refl
+    go true b c =
+        line-when receive_line refl (in_order (names_of Sludge) (drop (length w) t)) (any_fields (names_of Sludge) (drop (length w) t))
+    go false true c = numbered-when settle_line refl (names_of Digester) (behind 32 t)
+    go false false true = numbered-when accept_line refl (names_of Sludge) (behind 32 t)
+    go false false false = refl
 
 call-ordered : (u : List ℕ) → call_by read_fields u ≡ cond (call_passes in_order u) (call_by any_fields u) no_form
 unfolding call_by

@@ -6,6 +6,7 @@
 --   one-column    a column
 --   one-columns   the columns of a vector
 --   one-told      numbers behind their labels
+--   one-handed    a vector that is handed out
 --   one-answer    every answer
 --   one-held      every held line
 use mathlib.Core.Bool.{Bool, true, false, cond, not, ◌&&◌}
@@ -19,12 +20,12 @@ use borrow.Author.Tests.{ne_eqb}
 use Rattle.io.specs.Digits.{last_digits, hex_digit_ascii}
 use Rattle.std.proofs.lemmas.Bool.{and_parts}
 use Rattle.std.specs.Prelude.{Ok, Err}
-use Rattle.plant.specs.declared.answer.Answer.TheVariants.{Refused, Received, Fed, Settled, Returned, Released, Recycled}
+use Rattle.plant.specs.declared.answer.Answer.TheVariants.{Refused, Received, Fed, Settled, Returned, Released, Recycled, Drawn, Accepted}
 use Rattle.reading.specs.declared.names.Vector.TheVariants.{Sludge}
 use Rattle.reading.specs.Text.{ascii, newline, one_line}
 use Rattle.reading.specs.Number.{decimal, places_from}
 use Rattle.reading.specs.Names.{names_of}
-use Rattle.writing.specs.Answer.{labelled, column_text, column_or_none, columns_from, columns_text, told_text, released_text}
+use Rattle.writing.specs.Answer.{labelled, column_text, column_or_none, columns_from, columns_text, told_text, handed_text}
 use Rattle.writing.specs.Answer.{AnswerLineLaw, HeldLineLaw}
 
 abbrev pub One : List ℕ → Type 0
@@ -102,11 +103,11 @@ one-told (p ∷ ps) h =
     let both = and_parts (one_line p.0) (all_one (map (λ (q : List ℕ × ℕ). q.0) ps)) h in
     one-append (labelled p.0 p.1) _ (one-labelled p.0 p.1 both.0) (one-told ps both.1)
 
-one-released : (v : List ℕ) → One (released_text v)
-unfolding released_text one_line all_one
-one-released v =
+one-handed : (head v : List ℕ) → One head → One (handed_text head v)
+unfolding handed_text one_line all_one
+one-handed head v h =
     let columns = columns_text true (names_of Sludge) v in
-    one-append (ascii "(ok release") (columns ++ ascii ")") refl
+    one-append head (columns ++ ascii ")") h
     (one-append columns (ascii ")") (one-columns true 0 (names_of Sludge) v refl) refl)
 
 pub one-answer : AnswerLineLaw
@@ -116,8 +117,10 @@ one-answer Received v = refl
 one-answer (Fed b o n w) v = one-told _ refl
 one-answer Settled v = refl
 one-answer (Returned s) v = one-told _ refl
-one-answer Released v = one-released v
+one-answer Released v = one-handed _ v refl
 one-answer Recycled v = refl
+one-answer Drawn v = one-handed _ v refl
+one-answer (Accepted m) v = one-told _ refl
 
 pub one-held : HeldLineLaw
 unfolding one_line all_one

@@ -4,9 +4,11 @@
 --   scan-label      bytes that are no digits are passed over
 --   scan-number     a number's digits, with no digit behind them, are read as the number
 --   scan-labelled   a label and a number
---   scan-columns    the columns of a release
+--   scan-columns    the columns of a vector
+--   scan-handed     a vector that is handed out, behind the beginning of its answer
+--   scan-accepted   the N2 of an accept, behind the 2 of its label
 --   answer-read     every answer
---   columns-read    the vector of a release
+--   columns-read    the vector of a release, and of a draw
 --   answer-same     answers that are written alike are the same
 use mathlib.Core.Bool.{Bool, true, false, cond, not, ◌&&◌}
 use mathlib.Core.List.{List, [], ◌∷◌, ◌++◌, append_assoc, append-nil}
@@ -20,12 +22,13 @@ use Rattle.vectors.specs.Units.{milligrams, ticks}
 use Rattle.std.proofs.lemmas.Bool.{and_parts, false≢true}
 use Rattle.refusals.specs.declared.Refusal.TheVariants.{Other}
 use Rattle.refusals.specs.Refusal.{number}
-use Rattle.plant.specs.declared.answer.Answer.TheVariants.{Refused, Received, Fed, Settled, Returned, Released, Recycled}
+use Rattle.plant.specs.declared.answer.Answer.TheVariants.{Refused, Received, Fed, Settled, Returned, Released, Recycled, Drawn, Accepted}
 use Rattle.reading.specs.Text.{ascii, same_bytes, look_up, up_to}
 use Rattle.reading.specs.Number.{is_digit, all_digits, value_after, decimal}
 use Rattle.reading.specs.declared.names.Vector.TheVariants.{Sludge}
 use Rattle.reading.specs.Names.{names_of}
-use Rattle.writing.specs.Answer.{labelled, column_text, column_or_none, columns_from, fed_text, told_text, released_text}
+use Rattle.writing.specs.Answer.{labelled, column_text, column_or_none, columns_from, columns_text}
+use Rattle.writing.specs.Answer.{fed_text, accepted_text, told_text, handed_text}
 use Rattle.writing.specs.ReadBack.{scan, numbers_in, read_answer, short, ReadBackLaw, ReadColumnsLaw, SameTextLaw}
 use Rattle.writing.proofs.Laws.Decimal.{decimal-digits, decimal-value}
 
@@ -106,12 +109,19 @@ scan-columns (n ∷ ns) c v s p h l =
     ∙ ap (λ (j : ℕ). take (length ns) (drop j v) ++ numbers_in s) (add-one c))
     ∙ ap (λ (t : List ℕ). take (suc (length ns)) t ++ numbers_in s) (sym (drop-cons v c 0 (omega arith)))
 
-pub columns-read : ReadColumnsLaw
-unfolding released_text no_digits no_digits_in scan
-columns-read v l h =
-    scan-columns (names_of Sludge) 0 v (ascii ")") refl h (omega arith)
+-- behind a head without a digit
+scan-handed : (head v : List ℕ) → no_digits head ≡ true → length v ≡ 13 → ((i : ℕ) → short (get_or v i 0))
+    → numbers_in (handed_text head v) ≡ v
+unfolding handed_text no_digits no_digits_in scan
+scan-handed head v n l h =
+    scan-label head (columns_text true (names_of Sludge) v ++ ascii ")") n
+    ∙ scan-columns (names_of Sludge) 0 v (ascii ")") refl h (omega arith)
     ∙ append-nil (take 13 v)
     ∙ take_all 13 v (omega arith)
+
+pub columns-read : ReadColumnsLaw
+unfolding no_digits
+columns-read v l h = (scan-handed (ascii "(ok release") v refl l h, scan-handed (ascii "(ok draw") v refl l h)
 
 -- ---- answers
 
@@ -127,8 +137,15 @@ scan-fed b o n w h i j k =
     ∙ ap (λ (x : List ℕ). b ∷ o ∷ x) (scan-labelled (ascii " nitrate ") n 32 _ refl j refl)
     ∙ ap (λ (x : List ℕ). b ∷ o ∷ n ∷ x) (scan-end (ascii " warn ") w refl k)
 
+-- the 2 of n2 is read as a number
+scan-accepted : (m : ℕ) → short m → numbers_in (accepted_text m) ≡ 2 ∷ m ∷ []
+unfolding told_text scan no_digits
+scan-accepted m h =
+    scan-label (ascii "(ok accept n") (ascii "2 " ++ (decimal m ++ ascii ")")) refl
+    ∙ ap (λ (x : List ℕ). 2 ∷ x) (scan-end (ascii " ") m refl h)
+
 pub answer-read : ReadBackLaw
-unfolding read_answer look_up same_bytes up_to columns_from column_or_none column_text told_text released_text no_digits
+unfolding read_answer look_up same_bytes up_to columns_from column_or_none column_text told_text handed_text no_digits
 answer-read (Refused r) v h = ap (λ (ns : List ℕ). Refused (Other (get_or ns 0 0))) (scan-end (ascii "(no ") (number r) refl h.0)
 answer-read Received v h = refl
 answer-read (Fed b o n w) v h =
@@ -139,6 +156,8 @@ answer-read (Returned s) v h =
     ap (λ (ns : List ℕ). Returned (milligrams (get_or ns 0 0))) (scan-end (ascii "(ok return stripped ") s.0 refl h.5)
 answer-read Released v h = refl
 answer-read Recycled v h = refl
+answer-read Drawn v h = refl
+answer-read (Accepted m) v h = ap (λ (ns : List ℕ). Accepted (ticks (get_or ns 1 0))) (scan-accepted m.0 h.6)
 
 -- answers that are written alike are the same
 pub answer-same : SameTextLaw

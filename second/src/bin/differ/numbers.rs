@@ -15,7 +15,7 @@ use second::tables::{Asm1, Digester};
 use second::trials::{figures, Trial};
 use second::{host, numbers};
 
-/// What a call by numbers can be lent; `number` is its k or its gas.
+/// What a call by numbers can be lent; `number` is its k, its gas or its nitrite.
 struct Lent<'a> {
     record: &'a mut Record,
     figures: &'a [u64; 9],
@@ -56,6 +56,8 @@ const SETTLE: ByNumbers = by_numbers!(jilghvani_settle, settle, record, number, 
 const RETURN: ByNumbers = by_numbers!(jilghvani_return, give_back, record, number, told1);
 const RELEASE: ByNumbers = by_numbers!(jilghvani_release, release, record, number, v);
 const RECYCLE: ByNumbers = by_numbers!(jilghvani_recycle, recycle, record, number);
+const DRAW: ByNumbers = by_numbers!(jilghvani_draw, draw, record, number, v);
+const ACCEPT: ByNumbers = by_numbers!(jilghvani_accept, accept, record, v, number, told1);
 const TOTALS: ByNumbers = by_numbers!(jilghvani_totals, totals, record, told4);
 const ASM_TO_ADM: ByNumbers = by_numbers!(jilghvani_asm_to_adm, asm_to_adm, figures, v, d, told4);
 const ADM_TO_ASM: ByNumbers = by_numbers!(jilghvani_adm_to_asm, adm_to_asm, figures, d, v, told1);
@@ -161,8 +163,8 @@ fn by_both(
 fn told<'a>(call: &Call, after: &'a Lent) -> &'a [u64] {
     match call {
         Call::Feed(_) => after.told4,
-        Call::Return(_) => after.told1,
-        Call::Release(_) => after.v,
+        Call::Return(_) | Call::Accept(..) => after.told1,
+        Call::Release(_) | Call::Draw(_) => after.v,
         Call::Receive(_) | Call::Settle(..) | Call::Recycle(_) => &[],
     }
 }
@@ -177,6 +179,8 @@ fn on_record(trial: &mut Trial, list: &mut List, tally: &mut Tally) -> Result<()
         Call::Return(k) => (RETURN, Input { number: k, ..on }),
         Call::Release(k) => (RELEASE, Input { number: k, ..on }),
         Call::Recycle(k) => (RECYCLE, Input { number: k, ..on }),
+        Call::Draw(k) => (DRAW, Input { number: k, ..on }),
+        Call::Accept(v, nitrite) => (ACCEPT, Input { number: nitrite, v, ..on }),
     };
     let (refusal, mut after) = by_both(by_numbers, &input, trial.random.any(), tally)?;
     let after = after.lend(0);
@@ -248,12 +252,25 @@ fn conversion(trial: &mut Trial, plant: &Plant, tally: &mut Tally) -> Result<(),
     by_both(call, &input, trial.random.any(), tally).map(|_| ())
 }
 
+/// Has both accept what a copy of the record just takes or does not.
+fn accept_at_the_ceilings(
+    trial: &mut Trial,
+    plant: &Plant,
+    tally: &mut Tally,
+) -> Result<(), Difference> {
+    let ((v, number), plant) = trial.accept_at_the_ceilings(plant);
+    let accept = ByNumbers { kind: "  accept at the ceilings", ..ACCEPT };
+    let input = Input { v, number, ..Input::on(&plant) };
+    by_both(accept, &input, trial.random.any(), tally).map(|_| ())
+}
+
 /// Makes one call by numbers, or several that belong together, by both and compares everything.
 pub fn one_call(trial: &mut Trial, list: &mut List, tally: &mut Tally) -> Result<(), Difference> {
     let plant = &list.plant;
     let call = match trial.random.below(100) {
-        0..=59 => return on_record(trial, list, tally),
-        60..=78 => return closing(trial, plant, tally),
+        0..=55 => return on_record(trial, list, tally),
+        56..=60 => return accept_at_the_ceilings(trial, plant, tally),
+        61..=78 => return closing(trial, plant, tally),
         79..=93 => return conversion(trial, plant, tally),
         94 | 95 => {
             let figures = figures::wish(&mut trial.random);

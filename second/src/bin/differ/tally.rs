@@ -11,23 +11,27 @@ use std::ops::RangeInclusive;
 /// line; the sets behind `--figures`; the functions that are called by numbers; sheets that are
 /// made for their record and those of the table stand below the others; so do blends of one load
 /// and of eight, those whose lengths are turned away, those that are made for their record, and
-/// those in another order; a gap that is told stands by where it is; the functions that write a
-/// call's line, below each the same for its preview; and lengths of answers by the refusal of the
-/// record that a list begins from, below the lists whose lines all count the longer ones and the
-/// sessions of the program.
-const KINDS: [&str; 61] = [
+/// those in another order; and accepts that are made for their record; a gap that is told stands
+/// by where it is; the functions that write a call's line, below each the same for its preview;
+/// and lengths of answers by the refusal of the record that a list begins from, below the lists
+/// whose lines all count the longer ones and the sessions of the program.
+const KINDS: [&str; 72] = [
     "receive",
     "feed",
     "settle",
     "return",
     "release",
     "recycle",
+    "draw",
+    "accept",
     "preview of receive",
     "preview of feed",
     "preview of settle",
     "preview of return",
     "preview of release",
     "preview of recycle",
+    "preview of draw",
+    "preview of accept",
     "out of order",
     "preview in a preview",
     "no form",
@@ -52,6 +56,9 @@ const KINDS: [&str; 61] = [
     "jilghvani_return",
     "jilghvani_release",
     "jilghvani_recycle",
+    "jilghvani_draw",
+    "jilghvani_accept",
+    "  accept at the ceilings",
     "jilghvani_totals",
     "jilghvani_asm_to_adm",
     "jilghvani_adm_to_asm",
@@ -73,6 +80,10 @@ const KINDS: [&str; 61] = [
     "  release's preview",
     "jilghvani_write_recycle",
     "  recycle's preview",
+    "jilghvani_write_draw",
+    "  draw's preview",
+    "jilghvani_write_accept",
+    "  accept's preview",
     "jilghvani_answer_bytes",
     "  of a longer list",
     "  of a session",
@@ -88,6 +99,8 @@ fn kinds_of_call(call: &Call) -> (&'static str, &'static str) {
         Call::Return(_) => ("return", "preview of return"),
         Call::Release(_) => ("release", "preview of release"),
         Call::Recycle(_) => ("recycle", "preview of recycle"),
+        Call::Draw(_) => ("draw", "preview of draw"),
+        Call::Accept(..) => ("accept", "preview of accept"),
     }
 }
 
@@ -112,12 +125,16 @@ pub fn kind_of_written(asked: &Asked) -> &'static str {
         Asked::Call(Return(_)) => "jilghvani_write_return",
         Asked::Call(Release(_)) => "jilghvani_write_release",
         Asked::Call(Recycle(_)) => "jilghvani_write_recycle",
+        Asked::Call(Draw(_)) => "jilghvani_write_draw",
+        Asked::Call(Accept(..)) => "jilghvani_write_accept",
         Asked::Preview(Receive(_)) => "  receive's preview",
         Asked::Preview(Feed(_)) => "  feed's preview",
         Asked::Preview(Settle(..)) => "  settle's preview",
         Asked::Preview(Return(_)) => "  return's preview",
         Asked::Preview(Release(_)) => "  release's preview",
         Asked::Preview(Recycle(_)) => "  recycle's preview",
+        Asked::Preview(Draw(_)) => "  draw's preview",
+        Asked::Preview(Accept(..)) => "  accept's preview",
     }
 }
 

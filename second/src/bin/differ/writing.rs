@@ -39,9 +39,10 @@ impl Setting {
     /// The columns that the call hands over, between their guards; none where it takes none.
     fn vector(&self) -> Guarded<u64> {
         let columns: &[u64] = match &self.call {
-            Call::Receive(v) => v,
+            Call::Receive(v) | Call::Accept(v, _) => v,
             Call::Settle(_, d) => d,
-            Call::Feed(_) | Call::Return(_) | Call::Release(_) | Call::Recycle(_) => &[],
+            Call::Feed(_) | Call::Return(_) | Call::Release(_) => &[],
+            Call::Recycle(_) | Call::Draw(_) => &[],
         };
         Guarded::new(columns, number_pattern(self.salt))
     }
@@ -55,6 +56,8 @@ impl Setting {
             Call::Return(k) => host::write_return(k, self.preview, buffer),
             Call::Release(k) => host::write_release(k, self.preview, buffer),
             Call::Recycle(k) => host::write_recycle(k, self.preview, buffer),
+            Call::Draw(k) => host::write_draw(k, self.preview, buffer),
+            Call::Accept(_, n) => host::write_accept(vector.array(), n, self.preview, buffer),
         }
     }
 

@@ -1,9 +1,11 @@
 -- `composing::line::put_call` meets its contract. Assumes nothing.
 use native.Mathlib.Omega.{arith}
-use Rattle.reading.specs.Text.{up_to}
+use Rattle.reading.specs.declared.names.Vector.TheVariants.{Sludge, Digester}
+use Rattle.reading.specs.Names.{names_of}
+use Rattle.reading.specs.Text.{ascii, up_to}
 use Rattle.writing.specs.Answer.{told_text}
 use Rattle.writing.proofs.Laws.Page.{wrote_then, wrote_same}
-use Rattle.composing.proofs.Laws.Buffer.{settle-parts, call-as}
+use Rattle.composing.proofs.Laws.Buffer.{numbered-parts, call-as}
 use Rattle.composing.proofs.line.put_call.Goals as goal
 
 pub returns-in-Receive : goal.returns-in-Receive
@@ -14,7 +16,15 @@ pub returns-in-Settle : goal.returns-in-Settle
 unfolding up_to
 returns-in-Settle c =
     let w = wrote_then c.labelled.ensures.0 c.put_fields-in-Settle.ensures.text (omega arith) in
-    call-as _ _ c.in-Settle.is (wrote_same (settle-parts c.in-Settle.g.0 c.args.r.digester) w, omega arith)
+    let text = numbered-parts (ascii "settle ") c.in-Settle.g.0 (names_of Digester) c.args.r.digester in
+    call-as _ _ c.in-Settle.is (wrote_same text w, omega arith)
+
+pub returns-in-Accept : goal.returns-in-Accept
+unfolding up_to
+returns-in-Accept c =
+    let w = wrote_then c.labelled-in-Accept.ensures.0 c.put_fields-in-Accept.ensures.text (omega arith) in
+    let text = numbered-parts (ascii "accept ") c.in-Accept.n.0 (names_of Sludge) c.args.r.sludge in
+    call-as _ _ c.in-Accept.is (wrote_same text w, omega arith)
 
 pub returns-in-Feed : goal.returns-in-Feed
 unfolding told_text
@@ -31,3 +41,7 @@ returns-in-Release c = call-as _ _ c.in-Release.is (c.told-in-Release.ensures.0,
 pub returns-in-Recycle : goal.returns-in-Recycle
 unfolding told_text
 returns-in-Recycle c = call-as _ _ c.in-Recycle.is (c.told-in-Recycle.ensures.0, omega arith)
+
+pub returns-in-Draw : goal.returns-in-Draw
+unfolding told_text
+returns-in-Draw c = call-as _ _ c.in-Draw.is (c.told-in-Draw.ensures.0, omega arith)

@@ -3,8 +3,9 @@ use mathlib.Core.Path.{ap}
 use native.Mathlib.Omega.{arith}
 use lib.ListN.{length}
 use Rattle.plant.specs.declared.answer.Answer.{Answer}
+use Rattle.reading.specs.Text.{ascii}
 use Rattle.writing.specs.Answer.{answer_text}
-use Rattle.lengths.proofs.Laws.Answer.{fed-length, returned-length}
+use Rattle.lengths.proofs.Laws.Answer.{fed-length, returned-length, accepted-length, handed-length}
 use Rattle.lengths.proofs.answer.answer_length.Goals as goal
 
 pub returns-in-Fed-clause-exact : goal.returns-in-Fed-clause-exact
@@ -28,4 +29,32 @@ returns-in-Returned-clause-exact c =
       ap (λ (a : Answer). length (answer_text a c.args.v)) r.is,
       returned-length r.stripped.0,
       c.digits-in-Returned.ensures.exact,
+    )
+
+pub returns-in-Accepted-clause-exact : goal.returns-in-Accepted-clause-exact
+returns-in-Accepted-clause-exact c =
+    let r = c.in-Accepted in
+    omega (
+      arith,
+      ap (λ (a : Answer). length (answer_text a c.args.v)) r.is,
+      accepted-length r.n2.0,
+      c.digits-in-Accepted.ensures.exact,
+    )
+
+pub returns-in-Released-clause-exact : goal.returns-in-Released-clause-exact
+returns-in-Released-clause-exact c =
+    omega (
+      arith,
+      ap (λ (a : Answer). length (answer_text a c.args.v)) c.in-Released.is,
+      handed-length (ascii "(ok release") c.args.v,
+      c.columns_length.ensures.exact,
+    )
+
+pub returns-in-Drawn-clause-exact : goal.returns-in-Drawn-clause-exact
+returns-in-Drawn-clause-exact c =
+    omega (
+      arith,
+      ap (λ (a : Answer). length (answer_text a c.args.v)) c.in-Drawn.is,
+      handed-length (ascii "(ok draw") c.args.v,
+      c.columns_length-in-Drawn.ensures.exact,
     )

@@ -1,14 +1,9 @@
 -- `plant::recycling::recycled` meets its contract. Assumes nothing.
 use native.Mathlib.Omega.{arith}
 use mathlib.Core.Path.{refl, ap, ◌∙◌}
-use mathlib.Core.List.{List}
-use Prim.Native.Nat.{ℕ}
-use Rattle.std.specs.Prelude.{Option, Some, None, cond}
 use Rattle.refusals.specs.declared.Refusal.TheVariants.{TankAbove}
-use Rattle.plant.specs.declared.record.Plant.{Plant}
-use Rattle.vectors.specs.Columns.{asm1_ceilings, within, added}
 use Rattle.plant.specs.Calls.{recycle, ruled}
-use Rattle.plant.proofs.Laws.Decision.{stop-by, pass-by, stop, pass, room-lost, room-found}
+use Rattle.plant.proofs.Laws.Decision.{stop-by, pass-by, stop, pass, room-lost, room-found, summed}
 use Rattle.plant.proofs.Laws.Record.{reject-within, drawable}
 use Rattle.plant.proofs.recycling.recycled.Goals as goal
 
@@ -34,10 +29,6 @@ unfolding recycle ruled
 returns-in_err-unless c =
     pass-by _ _ _ c.in_ok-usable.ensures
     (stop _ _ _ _ c.is_thousandths.ensures c.in_err-unless.ensures.sent c.from_residual-in_err-unless.ensures.1)
-
--- the sum, or nothing
-abbrev summed : (p : Plant) (v : List ℕ) → Option (List ℕ)
-summed p v = cond (within asm1_ceilings (added p.sludge v)) (Some (added p.sludge v)) None
 
 pub returns-in_err-sludge : goal.returns-in_err-sludge
 unfolding recycle ruled

@@ -29,6 +29,14 @@ returns-then-eq-4 c =
     (look-further _ _ _ _ (same-is _ c.as_slice-3.ensures c.eq-3.ensures c.if-eq-3.false)
     (look-found _ _ _ _ (same-is _ c.as_slice-4.ensures c.eq-4.ensures c.if-eq-4.true))))
 
+pub returns-then-eq-5 : goal.returns-then-eq-5
+returns-then-eq-5 c =
+    c.bare-then-eq-5.ensures ∙ look-further _ _ _ _ (same-is _ c.as_slice.ensures c.eq.ensures c.if-eq.false)
+    (look-further _ _ _ _ (same-is _ c.as_slice-2.ensures c.eq-2.ensures c.if-eq-2.false)
+    (look-further _ _ _ _ (same-is _ c.as_slice-3.ensures c.eq-3.ensures c.if-eq-3.false)
+    (look-further _ _ _ _ (same-is _ c.as_slice-4.ensures c.eq-4.ensures c.if-eq-4.false)
+    (look-found _ _ _ _ (same-is _ c.as_slice-5.ensures c.eq-5.ensures c.if-eq-5.true)))))
+
 none_found : (w : List ℕ) → None ≡ look_up no_form [] w
 unfolding look_up
 none_found w = refl
@@ -38,4 +46,5 @@ returns c =
     look-further _ _ _ _ (same-is _ c.as_slice.ensures c.eq.ensures c.if-eq.false)
     (look-further _ _ _ _ (same-is _ c.as_slice-2.ensures c.eq-2.ensures c.if-eq-2.false)
     (look-further _ _ _ _ (same-is _ c.as_slice-3.ensures c.eq-3.ensures c.if-eq-3.false)
-    (look-further _ _ _ _ (same-is _ c.as_slice-4.ensures c.eq-4.ensures c.if-eq-4.false) (none_found _))))
+    (look-further _ _ _ _ (same-is _ c.as_slice-4.ensures c.eq-4.ensures c.if-eq-4.false)
+    (look-further _ _ _ _ (same-is _ c.as_slice-5.ensures c.eq-5.ensures c.if-eq-5.false) (none_found _)))))

@@ -47,3 +47,15 @@ unfolding step_by
 returns-in-Recycle c =
     let a = by_call c.args.plant c.args.request _ c.in-Recycle.is c.recycle.ensures.outcome in
     record { outcome = a.outcome; tells = a.tells; figures = a.figures }
+
+pub returns-in-Draw : goal.returns-in-Draw
+unfolding step_by
+returns-in-Draw c =
+    let a = by_call c.args.plant c.args.request _ c.in-Draw.is c.draw.ensures.outcome in
+    record { outcome = a.outcome; tells = a.tells; figures = a.figures }
+
+pub returns-in-Accept : goal.returns-in-Accept
+unfolding step_by
+returns-in-Accept c =
+    let a = by_call c.args.plant c.args.request _ c.in-Accept.is c.accept.ensures.outcome in
+    record { outcome = a.outcome; tells = a.tells; figures = a.figures }

@@ -1,4 +1,4 @@
--- `lengths::answer::released_length` meets its contract. Assumes nothing.
+-- `lengths::answer::columns_length` meets its contract. Assumes nothing.
 use mathlib.Core.List.{[]}
 use mathlib.Core.Path.{◌≡◌, ◌∙◌}
 use native.Mathlib.Nat.{zero-add}
@@ -6,11 +6,11 @@ use native.Mathlib.Omega.{arith}
 use lib.ListN.{length, get_or}
 use Rattle.reading.specs.declared.names.Vector.TheVariants.{Sludge}
 use Rattle.reading.specs.Names.{names_of}
-use Rattle.lengths.proofs.Laws.Answer.{name-length, columns-next, columns-end, released-length}
-use Rattle.lengths.proofs.answer.released_length.Goals as goal
+use Rattle.lengths.proofs.Laws.Answer.{name-length, columns-next, columns-end}
+use Rattle.lengths.proofs.answer.columns_length.Goals as goal
 
 pub loop-c-init : goal.loop-c-init
-loop-c-init c = record { low = omega arith; so_far = omega (arith, released-length c.args.v) }
+loop-c-init c = record { low = omega arith; so_far = omega arith }
 
 pub loop-c-preserved : goal.loop-c-preserved
 loop-c-preserved c =

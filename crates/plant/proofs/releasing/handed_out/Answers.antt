@@ -1,9 +1,9 @@
--- `plant::releasing::released` meets its contract. Assumes nothing.
+-- `plant::releasing::handed_out` meets its contract. Assumes nothing.
 use native.Mathlib.Omega.{arith}
-use Rattle.plant.specs.Calls.{release, ruled}
+use Rattle.plant.specs.Calls.{ruled}
 use Rattle.plant.proofs.Laws.Decision.{stop-by, pass-by, stop, pass}
 use Rattle.plant.proofs.Laws.Record.{reject-within, drawable}
-use Rattle.plant.proofs.releasing.released.Goals as goal
+use Rattle.plant.proofs.releasing.handed_out.Goals as goal
 
 pub drawn-drawn-requires : goal.drawn-drawn-requires
 drawn-drawn-requires c = (
@@ -18,18 +18,18 @@ rest-reject-requires c = (
 )
 
 pub returns-in_err-usable : goal.returns-in_err-usable
-unfolding release ruled
+unfolding ruled
 returns-in_err-usable c =
     stop-by _ _ _ c.in_err-usable.ensures c.from_residual.ensures.1
 
 pub returns-in_err-unless : goal.returns-in_err-unless
-unfolding release ruled
+unfolding ruled
 returns-in_err-unless c =
     pass-by _ _ _ c.in_ok-usable.ensures
     (stop _ _ _ _ c.is_thousandths.ensures c.in_err-unless.ensures.sent c.from_residual-in_err-unless.ensures.1)
 
 pub returns : goal.returns
-unfolding release ruled
+unfolding ruled
 returns c =
     pass-by _ _ _ c.in_ok-usable.ensures
     (pass _ _ _ _ c.is_thousandths.ensures c.in_ok-unless.ensures.passed
