@@ -15,7 +15,8 @@
 --   fields-only                     all of them
 --   CallIs                          what is to be shown of a call
 --   receive-only, numbered-only,    a call with fields
---   settle-only, accept-only
+--   by-numbered, settle-only,
+--   accept-only
 --   Words, look-only, number-only   a call with a number alone
 --   form-only, call-only            any call
 --   LineIs, line-only               and any line
@@ -405,25 +406,29 @@ module _ (t : List ℕ) where
       ∙ ap₂ (λ (x y : List ℕ). x ++ (32 ∷ y)) (same-equal (up_to 32 t) w e)
       (word_split u (decimal n) d ∙ ap (λ (x : List ℕ). decimal n ++ x) (fields-only names (fields_part u) f z both.1))
 
+  -- by what the number and the fields are read as, which is nothing where they are neither
+  by-numbered : (names : List (List ℕ)) (line : Option (ℕ × Fields) → Option Asked) → CallIs (bracketed t) (line None)
+      → ((p : ℕ × Fields) → numbered_by read_fields names (behind 32 t) ≡ Some p → CallIs (bracketed t) (line (Some p)))
+      → CallIs (bracketed t) (line (numbered_by read_fields names (behind 32 t)))
+  by-numbered names line none some = go (numbered_by read_fields names (behind 32 t)) refl
+    where
+      go : (r : Option (ℕ × Fields)) → numbered_by read_fields names (behind 32 t) ≡ r → CallIs (bracketed t) (line r)
+      go (Some p) q = some p q
+      go None q = none
+
   settle-only : same_bytes (up_to 32 t) (ascii "settle") ≡ true → fields_no_zero (names_of Digester) (fields_part (behind 32 t)) ≡ true
       → CallIs (bracketed t) (settle_line (numbered_by read_fields (names_of Digester) (behind 32 t)))
-  settle-only e z = go (numbered_by read_fields (names_of Digester) (behind 32 t)) refl
-    where
-      go : (r : Option (ℕ × Fields)) → numbered_by read_fields (names_of Digester) (behind 32 t) ≡ r
-          → CallIs (bracketed t) (settle_line r)
-      go (Some p) q = (refl, ap bracketed (numbered-only (ascii "settle") (names_of Digester) e z p.0 p.1 q))
-      go None q = tt
+  settle-only e z =
+      by-numbered (names_of Digester) settle_line tt
+      (λ p q. (refl, ap bracketed (numbered-only (ascii "settle") (names_of Digester) e z p.0 p.1 q)))
 
   accept-only : same_bytes (up_to 32 t) (ascii "accept") ≡ true → fields_no_zero (names_of Sludge) (fields_part (behind 32 t)) ≡ true
       → CallIs (bracketed t) (accept_line (numbered_by read_fields (names_of Sludge) (behind 32 t)))
-  accept-only e z = go (numbered_by read_fields (names_of Sludge) (behind 32 t)) refl
-    where
-      go : (r : Option (ℕ × Fields)) → numbered_by read_fields (names_of Sludge) (behind 32 t) ≡ r
-          → CallIs (bracketed t) (accept_line r)
-      go (Some p) q =
-          let text = numbered-only (ascii "accept") (names_of Sludge) e z p.0 p.1 q in
-          (refl, ap bracketed (text ∙ ap (λ (x : List ℕ). ascii "accept " ++ (decimal p.0 ++ x)) (asm1-text p.1.columns)))
-      go None q = tt
+  accept-only e z =
+      by-numbered (names_of Sludge) accept_line tt
+      (λ p q.
+      let text = numbered-only (ascii "accept") (names_of Sludge) e z p.0 p.1 q in
+      (refl, ap bracketed (text ∙ ap (λ (x : List ℕ). ascii "accept " ++ (decimal p.0 ++ x)) (asm1-text p.1.columns))))
 
 -- each word of a table means a call with the number k
 abbrev Words : ℕ → List (Word (Option Asked)) → Type 0

@@ -212,21 +212,27 @@ module _ (t : List ℕ) (k : ℕ) (e : k ≡ length (up_to 32 t)) where
   unfolding form_of
   form-receive h = rw (word-is _ h) (ap (λ (x : List ℕ). receive_line (read_fields (names_of Sludge) x)) rest_part)
 
-  pub form-settle : same_bytes (take k t) (ascii "receive") ≡ false → same_bytes (take k t) (ascii "settle") ≡ true
-      → settle_line (numbered_by read_fields (names_of Digester) (behind 32 t)) ≡ form_by read_fields t
+  -- u is what stands behind the word and its space, and r what it is read as
+  pub form-settle : {u : List ℕ} {r : Option (ℕ × Fields)} → u ≡ behind 32 t → r ≡ numbered_by read_fields (names_of Digester) u
+      → same_bytes (take k t) (ascii "receive") ≡ false → same_bytes (take k t) (ascii "settle") ≡ true
+      → settle_line r ≡ form_by read_fields t
   unfolding form_of
-  form-settle h i = rw (word-is _ h, word-is _ i)
+  form-settle b q h i = ap settle_line (q ∙ ap (numbered_by read_fields (names_of Digester)) b) ∙ rw (word-is _ h, word-is _ i)
 
-  pub form-accept : same_bytes (take k t) (ascii "receive") ≡ false → same_bytes (take k t) (ascii "settle") ≡ false
+  pub form-accept : {u : List ℕ} {r : Option (ℕ × Fields)} → u ≡ behind 32 t → r ≡ numbered_by read_fields (names_of Sludge) u
+      → same_bytes (take k t) (ascii "receive") ≡ false → same_bytes (take k t) (ascii "settle") ≡ false
       → same_bytes (take k t) (ascii "accept") ≡ true
-      → accept_line (numbered_by read_fields (names_of Sludge) (behind 32 t)) ≡ form_by read_fields t
+      → accept_line r ≡ form_by read_fields t
   unfolding form_of
-  form-accept h i j = rw (word-is _ h, word-is _ i, word-is _ j)
+  form-accept b q h i j =
+      ap accept_line (q ∙ ap (numbered_by read_fields (names_of Sludge)) b) ∙ rw (word-is _ h, word-is _ i, word-is _ j)
 
-  pub form-number : same_bytes (take k t) (ascii "receive") ≡ false → same_bytes (take k t) (ascii "settle") ≡ false
+  pub form-number : {u : List ℕ} {r : Option ℕ} → u ≡ behind 32 t → r ≡ read_number u
+      → same_bytes (take k t) (ascii "receive") ≡ false → same_bytes (take k t) (ascii "settle") ≡ false
       → same_bytes (take k t) (ascii "accept") ≡ false
-      → number_line (take k t) (read_number (behind 32 t)) ≡ form_by read_fields t
+      → number_line (take k t) r ≡ form_by read_fields t
   unfolding form_of
-  form-number h i j =
-      rw (word-is _ h, word-is _ i, word-is _ j)
+  form-number b q h i j =
+      ap (number_line (take k t)) (q ∙ ap read_number b)
+      ∙ rw (word-is _ h, word-is _ i, word-is _ j)
       (ap (λ (x : List ℕ). number_line x (read_number (behind 32 t))) (up_to-place 32 t k e))
