@@ -104,7 +104,7 @@
  * made by jilghvani_fresh or jilghvani_make. JILGHVANI_COLUMNS, which was a
  * record's length, is gone, so that none is 52 long by it. While the version's first
  * number is 0, the shared library's soname has the second one too, as
- * libjilghvani.so.0.17, so that the loader does not start a host with a library that
+ * libjilghvani.so.0.18, so that the loader does not start a host with a library that
  * it was not linked for. The archive has no such guard.
  */
 #ifndef JILGHVANI_H
@@ -118,9 +118,9 @@ extern "C" {
 #endif
 
 /* The version of this header, and its three numbers. */
-#define JILGHVANI_VERSION "0.17.0"
+#define JILGHVANI_VERSION "0.18.0"
 #define JILGHVANI_VERSION_MAJOR 0
-#define JILGHVANI_VERSION_MINOR 17
+#define JILGHVANI_VERSION_MINOR 18
 #define JILGHVANI_VERSION_PATCH 0
 
 /* Sizes, and the places of columns and figures: record[JILGHVANI_DIGESTER_AT +
@@ -414,7 +414,12 @@ uint64_t jilghvani_receive(uint64_t record[JILGHVANI_RECORD],
                            const uint64_t v[JILGHVANI_ASM1]);
 
 /* Feed k: draws k thousandths of the sludge tank, converts them and adds them to
- * the digester.
+ * the digester. The inerts there take their nitrogen from the organic nitrogen that
+ * no amino acids hold, then from ammonia. What both lack comes from amino acids: as
+ * many whole mg of them as hold it become sugars, and what these hold more is left for
+ * composites and sin. The feed gets 4 exactly where the drawn TKN is less than the
+ * inerts need. Before 0.18.0 amino acids did not give way, and 4 came as soon as the
+ * other organic nitrogen and ammonia were short.
  *
  * record    the caller's 61 numbers, read and written; sludge and digester are
  *           changed where the call is accepted. A refused one leaves every number
@@ -589,7 +594,8 @@ uint64_t jilghvani_blend(uint64_t record[JILGHVANI_RECORD],
 /* ---- The conversions by themselves ---- */
 
 /* The feed's conversion of a whole vector, ASM1 to digester, without record and
- * without draw, as asm2adm of BSM2 is called.
+ * without draw, as asm2adm of BSM2 is called. Amino acids give way to inerts as in
+ * jilghvani_feed.
  *
  * figures   9 numbers that the caller owns; read and never written:
  *           jilghvani_house, a set of one's own, or those of a record where they

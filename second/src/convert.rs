@@ -1,6 +1,7 @@
 //! The two conversions of document 01, each on one drawn vector and by the figures of its
-//! record: feed (ASM1 to digester, stages 1 to 5) and return (digester to ASM1); and both of
-//! any vector by itself, without a record, by any figures.
+//! record: feed (ASM1 to digester, stages 1 to 5, stage 1 as E9 and stage 4 as E13 amend them)
+//! and return (digester to ASM1); and both of any vector by itself, without a record, by any
+//! figures.
 //!
 //! `feed` and `give_back` are handed permitted figures and no column above its ceiling. Then
 //! no product or sum here passes 64 bits: the nitrate that COD can reduce is at
@@ -36,12 +37,31 @@ impl FeedTold {
     }
 }
 
-/// Stage 4's outcome: digester xi, the need q, and the nitrogen pool P it is taken from.
+/// What stage 4 begins with: digester xi, the need q, and the nitrogen pool P it is taken from.
 #[derive(Clone, Copy, Debug, PartialEq, Eq)]
 pub struct Inerts {
     pub xi: u64,
     pub need: u64,
     pub pool: u64,
+}
+
+/// What a feed has before stage 4 covers the need: stage 1's outcome, what it leaves of ss, xs, xbh
+/// and xba, the amino acids of stage 2, and the inerts.
+#[derive(Clone, Copy, Debug, PartialEq, Eq)]
+pub struct Before {
+    pub burn: Burn,
+    pub left: [u64; 4],
+    pub saa: u64,
+    pub inerts: Inerts,
+}
+
+/// Stage 4's outcome: the amino acids that gave way to inerts, and the nitrogen that is left, P' of
+/// the pool and H' of ammonia.
+#[derive(Clone, Copy, Debug, PartialEq, Eq)]
+pub struct Covered {
+    pub gave_way: u64,
+    pub pool: u64,
+    pub ammonia: u64,
 }
 
 /// Stage 1: oxygen is reduced first, then as much nitrate as the COD left can reduce.
@@ -70,8 +90,8 @@ pub fn amino_acids(figures: &Figures, v: &Asm1, ss_left: u64) -> u64 {
     min(ss_left, v[asm1::SND] / figures.naa)
 }
 
-/// Stages 3 and 4: the pool of organic nitrogen, with biomass as it was before stage 1,
-/// the inert COD that stays inert, and the nitrogen both inerts need.
+/// Stage 3 and what stage 4 begins with: the pool of organic nitrogen, with biomass as it was
+/// before stage 1, the inert COD that stays inert, and the nitrogen both inerts need.
 pub fn inerts(figures: &Figures, v: &Asm1, saa: u64) -> Inerts {
     use asm1::*;
     let Figures { ixb, ixe, ni, naa, fxi, .. } = *figures;
@@ -80,20 +100,47 @@ pub fn inerts(figures: &Figures, v: &Asm1, saa: u64) -> Inerts {
     Inerts { xi, need: ni * (v[SI] + xi), pool }
 }
 
+/// All that comes before the need is covered.
+#[inline(always)]
+pub fn before_covering(figures: &Figures, v: &Asm1) -> Before {
+    let burn = burn(v);
+    let left = left_after(v, burn.burnt);
+    let saa = amino_acids(figures, v, left[0]);
+    Before { burn, left, saa, inerts: inerts(figures, v, saa) }
+}
+
+/// Stage 4: the need is taken from the pool, then from ammonia. What both lack is taken from amino
+/// acids, of which as many whole mg give way as hold it; what they hold more is left in the pool.
+/// Refusal 4 where all of them hold less.
+#[inline(always)]
+pub fn cover(
+    figures: &Figures,
+    inerts: &Inerts,
+    ammonia: u64,
+    saa: u64,
+) -> Result<Covered, Refusal> {
+    let (need, pool, naa) = (inerts.need, inerts.pool, figures.naa);
+    if need <= pool + ammonia {
+        let ammonia = ammonia - need.saturating_sub(pool);
+        return Ok(Covered { gave_way: 0, pool: pool.saturating_sub(need), ammonia });
+    }
+    let short = need - (pool + ammonia);
+    let gave_way = short.div_ceil(naa);
+    match gave_way <= saa {
+        true => Ok(Covered { gave_way, pool: naa * gave_way - short, ammonia: 0 }),
+        false => Err(Refusal::FeedNitrogenShort),
+    }
+}
+
 /// Feed: the drawn ASM1 vector as a digester vector, with what was burnt and reduced. It is drawn
 /// into each of its callers, so that one of them is not slower where there is another.
 #[inline(always)]
 pub fn feed(figures: &Figures, v: &Asm1) -> Result<(Digester, FeedTold), Refusal> {
-    let burn = burn(v);
-    let left = left_after(v, burn.burnt);
-    let saa = amino_acids(figures, v, left[0]);
-    let inerts = inerts(figures, v, saa);
-    if inerts.need > inerts.pool + v[asm1::SNH] {
-        return Err(Refusal::FeedNitrogenShort);
-    }
-    let mut out = partition(figures, v, &left, &inerts);
-    out[digester::SAA] = saa;
-    out[digester::SSU] = left[0] - saa;
+    let Before { burn, left, saa, inerts } = before_covering(figures, v);
+    let covered = cover(figures, &inerts, v[asm1::SNH], saa)?;
+    let mut out = partition(figures, v, &left, inerts.xi, &covered);
+    out[digester::SAA] = saa - covered.gave_way;
+    out[digester::SSU] = left[0] - out[digester::SAA];
     out[digester::CO] = v[asm1::SO] - burn.oxygen;
     out[digester::CN] = v[asm1::SNO] - burn.nitrate;
     let warn = u64::from(out[digester::CO] > 0 || out[digester::CN] > 0);
@@ -101,20 +148,24 @@ pub fn feed(figures: &Figures, v: &Asm1) -> Result<(Digester, FeedTold), Refusal
     Ok((out, told))
 }
 
+/// The COD that stage 5 shares out: what is left of xs, xbh and xba, and the inerts that do not
+/// stay inert.
+pub fn rest(v: &Asm1, left: &[u64; 4], xi: u64) -> u64 {
+    left[1] + left[2] + left[3] + v[asm1::XI] + v[asm1::XP] - xi
+}
+
 /// Stages 4 and 5: inerts, composites, carbohydrate, lipid and inorganic nitrogen.
-fn partition(figures: &Figures, v: &Asm1, left: &[u64; 4], inerts: &Inerts) -> Digester {
+fn partition(figures: &Figures, v: &Asm1, left: &[u64; 4], xi: u64, covered: &Covered) -> Digester {
     use digester::*;
     let Figures { nxc, fch, fli, .. } = *figures;
-    let pool_left = inerts.pool.saturating_sub(inerts.need);
-    let ammonia_left = v[asm1::SNH] - inerts.need.saturating_sub(inerts.pool);
-    let rest = left[1] + left[2] + left[3] + v[asm1::XI] + v[asm1::XP] - inerts.xi;
+    let rest = rest(v, left, xi);
     let mut out = [0; 26];
     out[SI] = v[asm1::SI];
-    out[XI] = inerts.xi;
-    out[XC] = min(rest, pool_left / nxc);
+    out[XI] = xi;
+    out[XC] = min(rest, covered.pool / nxc);
     out[XCH] = fch * (rest - out[XC]) / (fch + fli);
     out[XLI] = rest - out[XC] - out[XCH];
-    out[SIN] = ammonia_left + pool_left - nxc * out[XC];
+    out[SIN] = covered.ammonia + covered.pool - nxc * out[XC];
     out[SIC] = v[asm1::SALK];
     out
 }

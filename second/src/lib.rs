@@ -1,11 +1,11 @@
 //! A second implementation of the ASM1 and ADM1 link, written from document 01, from
 //! requests E1 (recycle), E2 (fields in column order), E3 (previews), E5 (a writer for call
 //! lines), E6 (laboratory sheets), E7 (nine figures of one's own), E9 (nitrate by
-//! stoichiometry), E10 (hauled loads), E11 (how long the answers will be) and E12 (the
-//! side-stream reactor) of document 02 and, for what they have no line for (conversions by
-//! themselves and the figures that they take, `close`, `gap`, the number that asks for a
-//! preview to be written, the kinds of a sheet's entries, the program's `--figures`), from a
-//! description in words; never from the code of the verified link.
+//! stoichiometry), E10 (hauled loads), E11 (how long the answers will be), E12 (the side-stream
+//! reactor) and E13 (amino acids give way to inerts) of document 02 and, for what they have no
+//! line for (conversions by themselves and the figures that they take, `close`, `gap`, the number
+//! that asks for a preview to be written, the kinds of a sheet's entries, the program's
+//! `--figures`), from a description in words; never from the code of the verified link.
 //!
 //! The link:
 //! - `tables`: column names, ceilings, COD of a vector;
@@ -28,8 +28,8 @@
 //! - `random`: the generator of their numbers;
 //! - `balances`: the four balances over a list, from its calls and answers;
 //! - `trials`: figures, records, calls, lines, vectors and proposals to try, fair, damaged and
-//!   out of order, previews, calls to be written, sheets, blends, the reactor's water, and lists
-//!   of lines;
+//!   out of order, leachate, previews, calls to be written, sheets, blends, the reactor's water,
+//!   and lists of lines;
 //! - `outside`: trials of the program's input, output and arguments;
 //! - `host`: the functions of the C library, with the feature `library` alone.
 

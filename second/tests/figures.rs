@@ -14,7 +14,7 @@ use second::plant::{Call, Plant, Record, Refusal};
 use second::random::Random;
 use second::tables::*;
 use second::trials::figures::{just_outside, outside, permitted, DAIRY, EXTREMES};
-use second::trials::{form, sheets, Trial};
+use second::trials::{form, leachate, sheets, Trial};
 use second::{convert, lines, numbers, session};
 
 /// The extreme sets by their names.
@@ -590,8 +590,8 @@ fn fifteen_among_conversions() {
     refuse_back(&DAIRY, &short_back, 5);
 }
 
-/// The feed of a vector by the rules of document 01, in whole numbers without a ceiling: told
-/// numbers and digester columns, or none where inert nitrogen is short.
+/// The feed of a vector by the rules of document 01, as E9 and E13 amend them, in whole numbers
+/// without a ceiling: digester columns and told numbers, or none where inert nitrogen is short.
 fn feed_by_rules(figures: &Figures, v: &Asm1) -> Option<(Vec<u128>, [u128; 4])> {
     let [ixb, ixe, nxc, ni, naa, _, fxi, fch, fli] = figures.numbers().map(u128::from);
     let [si, ss, xi, xs, xbh, xba, xp, so, sno, snh, snd, xnd, salk] = v.map(u128::from);
@@ -608,8 +608,11 @@ fn feed_by_rules(figures: &Figures, v: &Asm1) -> Option<(Vec<u128>, [u128; 4])> 
     let pool = snd - naa * saa + xnd + ixb * (xbh + xba) + ixe * (xi + xp);
     let inert = fxi * (xi + xp) / 10_000;
     let need = ni * (si + inert);
-    let nitrogen = (pool + snh).checked_sub(need)?;
-    let pool_left = pool.saturating_sub(need);
+    let lacking = need.saturating_sub(pool + snh);
+    let given = lacking.div_ceil(naa);
+    let saa = saa.checked_sub(given)?;
+    let nitrogen = pool + snh + naa * given - need;
+    let pool_left = if given > 0 { nitrogen } else { pool.saturating_sub(need) };
     let rest = left[1] + left[2] + left[3] + xi + xp - inert;
     let xc = rest.min(pool_left / nxc);
     let xch = fch * (rest - xc) / (fch + fli);
@@ -643,11 +646,12 @@ fn wide(columns: &[u64]) -> Vec<u128> {
     columns.iter().map(|&column| u128::from(column)).collect()
 }
 
-/// How often a conversion was accepted and refused, and how often the result had composites,
-/// carbohydrate, lipid, amino acids and inerts.
+/// How often a conversion was accepted and refused, how often amino acids gave way in it, and how
+/// often the result had composites, carbohydrate, lipid, amino acids and inerts.
 #[derive(Default, Debug)]
 struct Met {
     fed: [u32; 2],
+    gave_way: u32,
     returned: [u32; 2],
     columns: [u32; 5],
 }
@@ -659,6 +663,7 @@ impl Met {
         let told = fed.map(|(out, told)| (wide(&out), told.numbers().map(u128::from)));
         assert_eq!(told, feed_by_rules(figures, v), "{figures:?} {v:?}");
         self.fed[usize::from(fed.is_none())] += 1;
+        self.gave_way += u32::from(leachate::gives_way(figures, v));
         let returned = convert::adm_to_asm(figures, d).ok();
         let told = returned.map(|(out, _)| wide(&out));
         assert_eq!(told, return_by_rules(figures, d), "{figures:?} {d:?}");
@@ -692,7 +697,7 @@ fn conversions_by_the_rules() {
             met.check(&plant.figures, &v, &d);
         }
     }
-    let all = met.fed.iter().chain(&met.returned).chain(&met.columns);
+    let all = met.fed.iter().chain(&met.returned).chain(&met.columns).chain([&met.gave_way]);
     assert!(all.min() >= Some(&400), "{met:?}");
 }
 

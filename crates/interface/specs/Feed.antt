@@ -1,8 +1,8 @@
--- Feed, stage by stage: document 01, "Feed, stage by stage", and document 02, E9; source document 004, "ASM1 → ADM1".
+-- Feed, stage by stage: document 01, "Feed, stage by stage", and document 02, E9 and E13; source document 004, "ASM1 → ADM1".
 --
 --   NitrateRule, nitrate_rule   how much COD nitrate burns
 --   ceil                        a quotient rounded up
---   stage1 .. stage5            the stages, each with its symbols of document 01: A o r D, P, q P' H', R
+--   stage1 .. stage5            the stages, each with its symbols of documents 01 and 02: A o r D, P, q m P' H', R
 --   fed_vector                  the digester vector that the stages give
 --   feed_asm1, feed_of          the whole conversion: refusal 4 (FeedShort), or the vector and the numbers told
 --
@@ -10,7 +10,8 @@
 --   counts are whole, and each definition says where a leftover goes;
 --   nitrate burns 40/14 mg of COD for 1 mg N, by stoichiometry (E9), where 004 has 2.86;
 --   nitrate that no COD is left to reduce is carried through in cn (004 allows that or adding it to the inorganic nitrogen);
---   a shortage of nitrogen for the inerts refuses the feed, where 004 maps less inert COD, and ammonia counts as cover after the pool.
+--   ammonia counts as cover for the inerts after the pool, and then the amino acids (E13); where all of these are short the feed is
+--   refused, and 004 maps less inert COD.
 use Rattle.std.specs.Prelude.{Bool, cond, ◌&&◌, Result, Ok, Err, List, ℕ, ◌+◌, ◌-◌, ◌*◌, ◌/◌, min, ltb, eqb}
 use Rattle.refusals.specs.declared.Refusal.{Refusal}
 use Rattle.refusals.specs.declared.Refusal.TheVariants.{FeedShort}
@@ -89,21 +90,38 @@ stage2 f v s1 =
 unfoldable pub stage3 : Figures → Asm1 → Stage2 → ℕ
 stage3 f v s2 = v.snd - f.naa * s2.saa + v.xnd + f.ixb * (v.xbh + v.xba) + f.ixe * (v.xi + v.xp)
 
--- ---- Stage 4: inerts (004, "Inert Organic Material")
+-- ---- Stage 4: inerts (004, "Inert Organic Material"), as document 02, E13, amends it
 
 pub record Stage4 : Type 0 where
   pub xi : ℕ  -- the digester's
   pub q : ℕ  -- nitrogen that the inerts need
+  pub m : ℕ  -- what pool and ammonia lack of it
+  pub g : ℕ  -- amino acids that give way, as COD
+  pub saa : ℕ  -- left, as the next
+  pub ssu : ℕ
   pub P' : ℕ  -- pool left
   pub H' : ℕ  -- ammonia left
   pub short : Bool  -- refusal 4
 
--- A difference below zero counts as zero: `P - q` is max(P − q, 0).
-unfoldable pub stage4 : Figures → Asm1 → ℕ → Stage4
-stage4 f v P =
+-- A difference below zero counts as zero: `P - q` is max(P − q, 0). So where nothing is lacking m and g are zero and P' is P − q; where m
+-- is not, P − q and H' are zero, and P' is what is left over of the amino acids' nitrogen.
+unfoldable pub stage4 : Figures → Asm1 → Stage2 → ℕ → Stage4
+stage4 f v s2 P =
     let xi = f.fxi * (v.xi + v.xp) / 10000 in
     let q = f.ni * (v.si + xi) in
-    record { xi = xi; q = q; P' = P - q; H' = v.snh - (q - P); short = ltb (P + v.snh) q }
+    let m = q - (P + v.snh) in
+    let g = ceil m f.naa in
+    record {
+      xi = xi;
+      q = q;
+      m = m;
+      g = g;
+      saa = s2.saa - g;
+      ssu = s2.ssu + g;
+      P' = P - q + (f.naa * g - m);
+      H' = v.snh - (q - P);
+      short = ltb s2.saa g;
+    }
 
 -- ---- Stage 5: composites, then carbohydrate and lipid (004, "Partitioning of Remaining COD and TKN")
 
@@ -137,7 +155,7 @@ stages f v =
     let s1 = stage1 nitrate_rule v in
     let s2 = stage2 f v s1 in
     let P = stage3 f v s2 in
-    let s4 = stage4 f v P in
+    let s4 = stage4 f v s2 P in
     record { s1 = s1; s2 = s2; P = P; s4 = s4; s5 = stage5 f v s1 s4 }
 
 -- si goes over whole, sic is salk, and all columns that no stage names are zero
@@ -145,8 +163,8 @@ abbrev pub fed_vector : Asm1 → Stages → Digester
 fed_vector v s =
     record {
       si = v.si;
-      ssu = s.s2.ssu;
-      saa = s.s2.saa;
+      ssu = s.s4.ssu;
+      saa = s.s4.saa;
       sfa = 0;
       sva = 0;
       sbu = 0;
@@ -183,7 +201,8 @@ feed_taken v s =
       vector = digester_columns (fed_vector v s);
     }
 
--- 4 where q > P + snh, else the conversion. No test that D is at most A: it always is (document 02, E8; `BurntLaw`).
+-- 4 where the amino acids are fewer than have to give way, else the conversion. No test that D is at most A: it always is (document 02,
+-- E8; `BurntLaw`).
 unfoldable pub feed_asm1 : Figures → Asm1 → Result Fed Refusal
 feed_asm1 f v =
     let s = stages f v in

@@ -3,19 +3,21 @@
 --   BurntLaw        a feed burns no more COD than it has to burn
 --   CoveredLaw      where COD covers the nitrate of a feed, all of the nitrate is reduced
 --   ShortLaw        where COD is short for it, all of the COD is burnt
+--   InertsLaw       a feed is refused with 4 exactly where no digester vector with its si and xi has the drawn TKN
 --   FeedLaw         an accepted feed conversion keeps COD but for what it burns, TKN, and oxygen and nitrate but for what it reduces
 --   ReturnLaw       an accepted return conversion keeps COD but for what it strips, TKN, oxygen and nitrate
 --
 -- They hold for every permitted set of figures (stage 1, and so the first three, have none) and every vector, also above the ceilings.
-use Rattle.std.specs.Prelude.{Ok, List, ◌≡◌, ℕ, ◌+◌, ◌-◌, ◌*◌, ◌≤◌, ◌<◌}
+use Rattle.std.specs.Prelude.{Ok, Err, List, ◌≡◌, ℕ, ◌+◌, ◌-◌, ◌*◌, ◌≤◌, ◌<◌}
+use Rattle.refusals.specs.declared.Refusal.TheVariants.{FeedShort}
 use Rattle.vectors.specs.declared.figures.Figures.{Figures}
 use Rattle.interface.specs.declared.feed.Fed.{Fed}
 use Rattle.interface.specs.declared.returning.Returned.{Returned}
-use Rattle.vectors.specs.Columns.{Asm1}
+use Rattle.vectors.specs.Columns.{Asm1, asm1, digester}
 use Rattle.vectors.specs.Figures.{Permitted}
 use Rattle.vectors.specs.Totals.{asm1_cod, asm1_tkn, asm1_oxygen, asm1_nitrate, digester_cod, digester_tkn, digester_oxygen}
 use Rattle.vectors.specs.Totals.{digester_nitrate}
-use Rattle.interface.specs.Feed.{nitrate_rule, stage1, feed_of}
+use Rattle.interface.specs.Feed.{nitrate_rule, stage1, stages, feed_of}
 use Rattle.interface.specs.Return.{return_of}
 
 -- ---- stage 1: document 02, E8 and E4
@@ -35,6 +37,23 @@ abbrev pub ShortLaw : Type 0
 ShortLaw =
     (v : Asm1) → let s = stage1 nitrate_rule v in
     nitrate_rule.ticks * (s.A - s.o) < nitrate_rule.cod * v.sno → s.D ≡ s.A
+
+-- ---- stage 4: document 02, E13
+
+-- the digester vector d, of any columns, has the si and xi that a feed of c has, and the TKN of c
+pub record Suits (f : Figures) (c d : List ℕ) : Type 0 where
+  pub si : (digester d).si ≡ (asm1 c).si
+  pub xi : (digester d).xi ≡ (stages f (asm1 c)).s4.xi
+  pub tkn : digester_tkn f d ≡ asm1_tkn f c
+
+-- where it is refused with 4 none does, where none does it is refused with 4, and what an accepted feed gives does
+pub record InertsDecide (f : Figures) (c : List ℕ) : Type 0 where
+  pub refused : feed_of f c ≡ Err FeedShort → (d : List ℕ) → Suits f c d → ⊥
+  pub none : ((d : List ℕ) → Suits f c d → ⊥) → feed_of f c ≡ Err FeedShort
+  pub accepted : (o : Fed) → feed_of f c ≡ Ok o → Suits f c o.vector
+
+abbrev pub InertsLaw : Type 0
+InertsLaw = (f : Figures) → Permitted f → (c : List ℕ) → InertsDecide f c
 
 -- ---- what the conversions keep
 

@@ -1,4 +1,5 @@
 pub mod Feed
+pub mod Before
 pub mod Return
 pub mod Whole
 pub mod Structs

@@ -1,5 +1,5 @@
 -- The hand-worked plants a to k: document 01, "Hand-worked plants" (k = 1000, unnamed columns zero), with a, b and h as document 02,
--- E9, amends them.
+-- E9, amends them; and those of E13.
 --
 --   ◌is◌                         a column by its name and its value
 --   asm1_named, digester_named   the columns that have these values, all others zero
@@ -75,6 +75,14 @@ plants =
     -- f: si by fed_vector; sin by stage4 and stage5. One tick less, and stage4 is short
     ∷ feeding ("si" is 1 ∷ "snh" is 280 ∷ []) (fed 0 0 0 0 ("si" is 1 ∷ []))
     ∷ feeding ("si" is 1 ∷ "snh" is 279 ∷ []) (Err FeedShort)
+    -- E13: amino acids give way by stage4; xi and sin by stage4 and stage5
+    ∷ feeding ("si" is 1 ∷ "ss" is 1 ∷ "snd" is 980 ∷ []) (fed 0 0 0 0 ("si" is 1 ∷ "ssu" is 1 ∷ "sin" is 700 ∷ []))
+    -- a shortage of exactly naa × saa, 2 × 980 = 7 × 280; one tick more, and stage4 is short
+    ∷ feeding ("si" is 8 ∷ "ss" is 2 ∷ "snd" is 1960 ∷ "snh" is 280 ∷ []) (fed 0 0 0 0 ("si" is 8 ∷ "ssu" is 2 ∷ []))
+    ∷ feeding ("si" is 8 ∷ "ss" is 2 ∷ "snd" is 1960 ∷ "snh" is 279 ∷ []) (Err FeedShort)
+    -- a shortage of a tick: one milligram of amino acids gives way, and 979 ticks are left over
+    ∷ feeding ("si" is 1 ∷ "ss" is 2 ∷ "snd" is 1960 ∷ "snh" is 279 ∷ [])
+    (fed 0 0 0 0 ("si" is 1 ∷ "ssu" is 1 ∷ "saa" is 1 ∷ "sin" is 979 ∷ []))
     -- g: D, o, co, cn and warn by stage1
     ∷ feeding ("xs" is 5 ∷ "so" is 7 ∷ "sno" is 100 ∷ []) (fed 5 5 0 1 ("co" is 2 ∷ "cn" is 100 ∷ []))
     -- h: D, r, cn and warn by stage1; sin, the nitrogen of the burnt biomass, by stage3 and stage5

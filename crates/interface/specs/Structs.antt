@@ -53,10 +53,13 @@ pub record AcidsHeld (a : Acids) (s : Stage2) : Type 0 where
   pub saa : a.saa.0 ≡ s.saa
   pub ssu : a.ssu.0 ≡ s.ssu
   pub saa_le : a.saa.0 ≤ cod_ceiling
+  pub ssu_le : a.ssu.0 ≤ cod_ceiling
 
 -- m is the particulate inert COD of the drawn vector
 pub record InertsHeld (i : Inerts) (s : Stage4) (m : ℕ) : Type 0 where
   pub xi : i.xi.0 ≡ s.xi
+  pub saa : i.saa.0 ≡ s.saa
+  pub ssu : i.ssu.0 ≡ s.ssu
   pub P' : i.pool.0 ≡ s.P'
   pub H' : i.ammonia.0 ≡ s.H'
   pub xi_le : i.xi.0 ≤ m
@@ -74,9 +77,8 @@ pub record RemainsHeld (r : Remains) (s : Stage5) : Type 0 where
   pub sin : r.sin.0 ≡ s.sin
 
 -- what the digester vector is made of, by the stages of one vector
-pub record StagesHeld (l : Left) (a : Acids) (i : Inerts) (r : Remains) (m : ℕ) (s : Stages) : Type 0 where
+pub record StagesHeld (l : Left) (i : Inerts) (r : Remains) (m : ℕ) (s : Stages) : Type 0 where
   pub left : Leaves l s.s1
-  pub acids : AcidsHeld a s.s2
   pub inerts : InertsHeld i s.s4 m
   pub remains : RemainsHeld r s.s5
 

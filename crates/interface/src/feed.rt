@@ -8,7 +8,7 @@ ghost use Rattle.interface.specs.Structs.{Low, Demands, Leaves, AcidsHeld, Inert
 
 use columns::{Asm1, Digester};
 use refusals::Refusal;
-use vectors::{Figures, Milligrams, Rate, Ticks, Unit, afforded, nitrogen, share};
+use vectors::{Figures, Milligrams, Rate, Ticks, Unit, afforded, covering, nitrogen, share};
 
 // What an accepted feed conversion gives: its vector and the numbers told. warn is a number, as stage 1 of document 01 makes it and as it
 // is told.
@@ -45,7 +45,7 @@ struct Drawn {
 
 // The conversion, and its stages in their order. A method that reads many columns names the vector and the figures once.
 impl Drawn {
-    // 4 where q > P + snh, else the five stages. D is at most A of itself (`BurntLaw`).
+    // 4 where the amino acids cannot give what the inerts lack, else the five stages. D is at most A of itself (`BurntLaw`).
     fn convert(self) -> Result<Fed, Refusal>
         ensures { result ≡ feed_asm1 self.figures (asm1_counts self.vector) }
     {
@@ -53,13 +53,12 @@ impl Drawn {
         let left = self.left(demand);
         let acids = self.acids(left);
         let pool = self.pool(acids);
-        let inerts = self.inerts(pool)?;
+        let inerts = self.inerts(acids, pool)?;
         let remains = self.remains(left, inerts);
         let staged = Staged {
             drawn: self,
             demand,
             left,
-            acids,
             inerts,
             remains,
         };
@@ -133,21 +132,27 @@ impl Drawn {
         soluble.plus(v.xnd).plus(biomass).plus(inert)
     }
 
-    // Stage 4. Refusal 4 where nitrogen is short.
-    fn inerts(self, pool: Ticks) -> Result<Inerts, Refusal>
-        requires { (pool.0 ≡ (stages self.figures (asm1_counts self.vector)).P) × (pool.0 ≤ 60000000000000000) }
+    // Stage 4. What pool and ammonia lack for the inerts, amino acids give; refusal 4 where they cannot.
+    fn inerts(self, acids: Acids, pool: Ticks) -> Result<Inerts, Refusal>
+        requires acids { AcidsHeld acids (stages self.figures (asm1_counts self.vector)).s2 }
+        requires pool { (pool.0 ≡ (stages self.figures (asm1_counts self.vector)).P) × (pool.0 ≤ 60000000000000000) }
         ensures { InertsGiven result (stages self.figures (asm1_counts self.vector)).s4 (self.vector.xi.0 + self.vector.xp.0) }
     {
         let f = self.figures;
         let v = self.vector;
         let xi = share(v.xi.plus(v.xp), f.fxi, 10000);
         let q = nitrogen(f.ni, v.si.plus(xi));
-        if pool.plus(v.snh) < q {
+        let m = q.less(pool.plus(v.snh));
+        let g = giving(m, f.naa);
+        if acids.saa < g {
             return Err(Refusal::FeedShort);
         }
+        let over = nitrogen(f.naa, g).less(m);
         Ok(Inerts {
             xi,
-            pool: pool.less(q),
+            saa: acids.saa.less(g),
+            ssu: acids.ssu.plus(g),
+            pool: pool.less(q).plus(over),
             ammonia: v.snh.less(q.less(pool)),
         })
     }
@@ -179,11 +184,10 @@ struct Staged {
     drawn: Drawn,
     demand: Demand,
     left: Left,
-    acids: Acids,
     inerts: Inerts,
     remains: Remains,
     ghost demands: { Demands demand (stage1 nitrate_rule (asm1_counts drawn.vector)) },
-    ghost held: { StagesHeld left acids inerts remains (drawn.vector.xi.0 + drawn.vector.xp.0) (stages drawn.figures (asm1_counts drawn.vector)) },
+    ghost held: { StagesHeld left inerts remains (drawn.vector.xi.0 + drawn.vector.xp.0) (stages drawn.figures (asm1_counts drawn.vector)) },
 }
 
 // The answer of an accepted conversion.
@@ -207,8 +211,8 @@ impl Staged {
     {
         Digester {
             si: self.drawn.vector.si,
-            ssu: self.acids.ssu,
-            saa: self.acids.saa,
+            ssu: self.inerts.ssu,
+            saa: self.inerts.saa,
             sfa: Milligrams(0),
             sva: Milligrams(0),
             sbu: Milligrams(0),
@@ -263,10 +267,12 @@ pub struct Acids {
     pub ssu: Milligrams,
 }
 
-// What stage 4 gives: the digester's xi, and the pool and the ammonia left.
+// What stage 4 gives: the digester's xi, saa and ssu, and the pool and the ammonia left.
 #[derive(Clone, Copy)]
 pub struct Inerts {
     pub xi: Milligrams,
+    pub saa: Milligrams,
+    pub ssu: Milligrams,
     pub pool: Ticks,
     pub ammonia: Ticks,
 }
@@ -316,6 +322,17 @@ fn short_demand(a: Milligrams, o: Milligrams, r: Ticks) -> Demand
     ensures { (result.o ≡ o) × ((result.r ≡ r) × (result.d ≡ a)) }
 {
     Demand { o, r, d: a }
+}
+
+// The amino acids that have the nitrogen m, rounded up. Most feeds lack none, and nothing is divided.
+fn giving(m: Ticks, naa: u64) -> Milligrams
+    requires { (1 ≤ naa) × ((naa ≤ 10000) × (m.0 ≤ 100000000000000000)) }
+    ensures { result.0 ≡ ceil m.0 naa }
+{
+    if m == Ticks(0) {
+        return Milligrams(0);
+    }
+    covering(m, naa)
 }
 
 // 1 where oxygen or nitrate is carried through, else 0.

@@ -33,7 +33,7 @@ fn serve_word<R: Env + Input + Print + Eprint + Clock>(rt: &R) -> Result<(), Fai
             return write_all(rt, &mut writer(rt), HELP);
         }
         if is_word(rt, b"--version") {
-            return write_all(rt, &mut writer(rt), b"sludgeline 0.17.0\n");
+            return write_all(rt, &mut writer(rt), b"sludgeline 0.18.0\n");
         }
     }
     let _ = eprintln!(rt; "sludgeline: unknown argument (--help tells what there is)");

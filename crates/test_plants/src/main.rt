@@ -1,6 +1,7 @@
 // Runs the hand-worked plants a to k of document 01 through the compiled conversions, with the house set and k = 1000, and writes
 // what each gives: the refusal, or the numbers told and the columns that are not zero. crates/interface/specs/Plants.antt is the same
-// table for the definitions. Under the letter n stand four feeds more, on both sides of nitrate that COD just covers.
+// table for the definitions. Under the letter n stand four feeds more, on both sides of nitrate that COD just covers, and under m six whose
+// inerts lack nitrogen that amino acids give, or cannot give.
 #![tactic(auto)]
 
 use Example::{Feed, Return};
@@ -16,7 +17,7 @@ enum Example {
 }
 
 // Each by its plant's letter.
-const PLANTS: [(u8, Example); 17] = [
+const PLANTS: [(u8, Example); 23] = [
     (
         b'a',
         Feed([0, 40000, 0, 0, 0, 0, 0, 5000, 100000000, 0, 0, 0, 0]),
@@ -36,6 +37,12 @@ const PLANTS: [(u8, Example); 17] = [
     (b'j', Return(8, 2, 6000)),
     (b'k', Return(1, 0, 600)),
     (b'k', Return(1, 0, 599)),
+    (b'm', Feed([1, 1, 0, 0, 0, 0, 0, 0, 0, 0, 980, 0, 0])),
+    (b'm', Feed([8, 2, 0, 0, 0, 0, 0, 0, 0, 280, 1960, 0, 0])),
+    (b'm', Feed([8, 2, 0, 0, 0, 0, 0, 0, 0, 279, 1960, 0, 0])),
+    (b'm', Feed([1, 2, 0, 0, 0, 0, 0, 0, 0, 279, 1960, 0, 0])),
+    (b'm', Feed([1, 2, 0, 0, 0, 0, 0, 0, 0, 280, 1960, 0, 0])),
+    (b'm', Feed([1, 1, 0, 10, 0, 0, 0, 0, 0, 0, 980, 0, 0])),
     (b'n', Feed([0, 143, 0, 0, 0, 0, 0, 0, 500499, 0, 0, 0, 0])),
     (b'n', Feed([0, 143, 0, 0, 0, 0, 0, 0, 500500, 0, 0, 0, 0])),
     (b'n', Feed([0, 143, 0, 0, 0, 0, 0, 0, 500501, 0, 0, 0, 0])),

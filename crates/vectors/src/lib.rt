@@ -22,5 +22,5 @@ pub use claims::laws_hold;
 pub use draw::{drawn, rest};
 pub use figures::{Figures, HOUSE, is_permitted};
 pub use totals::{cod, tkn};
-pub use units::{Milligrams, Millimoles, Rate, Ticks, Unit, afforded, nitrogen, share};
+pub use units::{Milligrams, Millimoles, Rate, Ticks, Unit, afforded, covering, nitrogen, share};
 pub use vector::{COD_CEILING, TICK_CEILING, Vector};

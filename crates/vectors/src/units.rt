@@ -1,5 +1,5 @@
 // One tuple struct for each unit of document 01: a sum or a test of two units does not compile. What goes from one unit to the other
-// stands here: `nitrogen`, `afforded`, and the methods of `Rate`. (The totals add raw columns by their weights.)
+// stands here: `nitrogen`, `afforded`, `covering`, and the methods of `Rate`. (The totals add raw columns by their weights.)
 ghost use Rattle.std.specs.Prelude.{◌≡◌, ℕ, ◌+◌, ◌-◌, ◌*◌, ◌/◌, ◌≤◌, min, leb};
 
 // Milligrams of COD or of oxygen.
@@ -80,6 +80,14 @@ pub fn afforded(x: Milligrams, m: Ticks, figure: u64) -> Milligrams
     ensures { (result.0 ≡ min x.0 (m.0 / figure)) × ((result.0 ≤ x.0) × (figure * result.0 ≤ m.0)) }
 {
     Milligrams(x.0.min(m.0 / figure))
+}
+
+// As much COD as has the nitrogen m, rounded up, at a figure in ticks per milligram.
+pub fn covering(m: Ticks, figure: u64) -> Milligrams
+    requires { (1 ≤ figure) × ((figure ≤ 10000) × (m.0 ≤ 100000000000000000)) }
+    ensures { result.0 ≡ (m.0 + (figure - 1)) / figure }
+{
+    Milligrams((m.0 + (figure - 1)) / figure)
 }
 
 // The share of x that is a parts of b.

@@ -3,21 +3,22 @@
 //! double precision, as simulators do it. For each balance it is counted how many runs
 //! do not close.
 //!
-//!     floating [--seed N] [--runs N] [--calls N] [--recycles N] [--reactor N]
+//!     floating [--seed N] [--runs N] [--calls N] [--recycles N] [--reactor N] [--leachate N]
 //!
 //! The double-precision link takes document 01's stages (as document 02 amends them) and
-//! house figures, with 004's real divisions where document 01 has floors, and real units: COD
-//! and oxygen in g (a count is 0.001 g), nitrogen and nitrate in g N (a tick is 10^-7 g).
-//! It has no ceilings, so a call that the proved link refuses by 10 goes through.
+//! house figures, with 004's real divisions where document 01 has floors and E13 whole mg, and
+//! real units: COD and oxygen in g (a count is 0.001 g), nitrogen and nitrate in g N (a tick is
+//! 10^-7 g). It has no ceilings, so a call that the proved link refuses by 10 goes through.
 //!
 //! Here: 004's formulas, the plant in double precision, the plant of the C library, a
 //! run of both, the table, the options.
 
 use second::figures::HOUSE;
 use second::host;
-use second::plant::{Call, Record};
+use second::plant::{Call, Plant, Record};
 use second::random::Random;
 use second::tables::{self, asm1, digester, Asm1};
+use second::trials::leachate::gives_way_in_feed;
 use std::process::ExitCode;
 
 /// An ASM1 vector in g.
@@ -121,19 +122,34 @@ fn feed(v: &RealAsm1) -> Option<(RealDigester, Gone)> {
     // S_i,ADM1 = S_i; X_i,ADM1 = f_xi (X_p + X_i).
     out[SI] = v[asm1::SI];
     out[XI] = F_XI * inert;
-    // ReqOrgN_s + ReqOrgN_X = N_i S_i + N_i f_xi (X_p + X_i), from the pool, then from S_nh.
+    // ReqOrgN_s + ReqOrgN_X = N_i S_i + N_i f_xi (X_p + X_i).
     let need = N_I * (out[SI] + out[XI]);
-    if need > pool + v[asm1::SNH] {
-        return None;
-    }
-    let ammonia_left = v[asm1::SNH] - (need - pool).max(0.0);
+    let ammonia = v[asm1::SNH];
+    let [pool_left, ammonia_left] = cover(&mut out, need, pool, ammonia)?;
     let remain = left[1] + left[2] + left[3] + inert - out[XI];
-    partition(&mut out, remain, (pool - need).max(0.0), ammonia_left);
+    partition(&mut out, remain, pool_left, ammonia_left);
     out[SIC] = v[asm1::SALK];
     // Excess oxygen and nitrate pass through the digester.
     out[CO] = v[asm1::SO] - gone.oxygen;
     out[CN] = v[asm1::SNO] - gone.nitrate;
     Some((out, gone))
+}
+
+/// 004, the nitrogen of the inerts, from the pool, then from S_nh, and then from S_aa, as much of
+/// which as holds it gives way to S_su (request E13 of document 02); gives what is left of pool and
+/// S_nh, and none where S_aa holds less.
+fn cover(out: &mut RealDigester, need: f64, pool: f64, ammonia: f64) -> Option<[f64; 2]> {
+    use digester::*;
+    if need <= pool + ammonia {
+        return Some([(pool - need).max(0.0), ammonia - (need - pool).max(0.0)]);
+    }
+    let gives_way = (need - (pool + ammonia)) / N_AA;
+    if gives_way > out[SAA] {
+        return None;
+    }
+    out[SAA] -= gives_way;
+    out[SSU] += gives_way;
+    Some([0.0, 0.0])
 }
 
 /// 004, partitioning of remaining COD and TKN: X_c, X_ch, X_li and S_in.
@@ -422,19 +438,33 @@ fn received(random: &mut Random, size: &Size) -> Asm1 {
     })
 }
 
-/// How many calls of a run there are, and how many of a hundred stand in the place of a release:
-/// recycles, draws for the reactor, and as many accepts from it.
+/// A leachate to receive: soluble alone but for xs, with about as much nitrogen as its inerts need.
+fn leachate(random: &mut Random, size: &Size) -> Asm1 {
+    std::array::from_fn(|column| match column {
+        asm1::SI | asm1::SS | asm1::XS => random.below(size.cod + 1),
+        asm1::SNH | asm1::SND => random.below(200 * size.cod + 1),
+        _ => 0,
+    })
+}
+
+/// How many calls of a run there are; how many of a hundred stand in the place of a release:
+/// recycles, draws for the reactor, and as many accepts from it; and how many of a hundred receives
+/// are of leachate.
 #[derive(Clone, Copy)]
 struct Calls {
     number: u64,
     recycles: u64,
     reactor: u64,
+    leachate: u64,
 }
 
 /// The next call of a run.
 fn next_call(random: &mut Random, size: &Size, calls: &Calls) -> Call {
     let (k, draws) = (1 + random.below(1000), 80 + calls.recycles);
     match random.below(100) {
+        0..=34 if calls.leachate > 0 && random.percent(calls.leachate) => {
+            Call::Receive(leachate(random, size))
+        }
         0..=34 => Call::Receive(received(random, size)),
         35..=59 => Call::Feed(k),
         60..=79 => Call::Return(k),
@@ -462,6 +492,7 @@ struct Report {
     rows: [Row; 4],
     accepted: u64,
     judged_apart: u64,
+    gave_way: u64,
 }
 
 impl Report {
@@ -476,8 +507,8 @@ impl Report {
         }
     }
 
-    /// Prints the rows of one size.
-    fn print(&self, size: &Size, runs: u64) {
+    /// Prints the rows of one size, and where leachate was asked for how often it was met.
+    fn print(&self, size: &Size, runs: u64, calls: &Calls) {
         println!("{} ({} accepted calls)", size.name, self.accepted);
         println!(
             "  balance {:>9} {:>14} {:>15} {:>16} {:>20}",
@@ -489,7 +520,16 @@ impl Report {
             println!(" {greatest:>10.2e} {unit:<5} {proved_open:>20}");
         }
         println!("  calls that one link accepts and the other refuses: {}", self.judged_apart);
+        if calls.leachate > 0 {
+            println!("  feeds in which amino acids gave way: {}", self.gave_way);
+        }
     }
+}
+
+/// Whether a call is a feed of this record in which amino acids give way.
+fn gives_way(call: &Call, record: &Record) -> bool {
+    let plant = || Plant::from_columns(record);
+    matches!(call, Call::Feed(k) if gives_way_in_feed(&plant(), *k))
 }
 
 /// Runs one plant by both links, with the same calls.
@@ -497,7 +537,9 @@ fn one_run(random: &mut Random, size: &Size, calls: &Calls, report: &mut Report)
     let (mut plant, mut proved) = (RealPlant::fresh(), ProvedPlant::fresh());
     for _ in 0..calls.number {
         let call = next_call(random, size, calls);
+        let gives_way = gives_way(&call, &proved.record);
         let accepted = proved.call(&call);
+        report.gave_way += u64::from(gives_way && accepted);
         report.judged_apart += u64::from(plant.call(&call) != accepted);
     }
     report.accepted += proved.accepted;
@@ -505,12 +547,13 @@ fn one_run(random: &mut Random, size: &Size, calls: &Calls, report: &mut Report)
 }
 
 /// The options' names.
-const OPTIONS: [&str; 5] = ["--seed", "--runs", "--calls", "--recycles", "--reactor"];
+const OPTIONS: [&str; 6] = ["--seed", "--runs", "--calls", "--recycles", "--reactor", "--leachate"];
 
-/// Reads the options: seed, runs of each size, calls of each run; and in a hundred calls recycles,
-/// and draws and as many accepts, in all at most 20 and by default none.
-fn options() -> Result<[u64; 5], String> {
-    let mut options: [u64; 5] = [4, 1000, 100, 0, 0];
+/// Reads the options: seed, runs of each size, calls of each run; in a hundred calls recycles, and
+/// draws and as many accepts, in all at most 20 and by default none; and in a hundred receives
+/// those of leachate, by default none.
+fn options() -> Result<[u64; 6], String> {
+    let mut options: [u64; 6] = [4, 1000, 100, 0, 0, 0];
     let mut words = std::env::args().skip(1);
     while let Some(word) = words.next() {
         let which = OPTIONS.iter().position(|name| *name == word);
@@ -520,15 +563,16 @@ fn options() -> Result<[u64; 5], String> {
             _ => return Err(format!("{word}: unknown, or without its number")),
         }
     }
-    let [.., recycles, reactor] = options;
-    match recycles.saturating_add(reactor.saturating_mul(2)) {
-        0..=20 => Ok(options),
-        _ => Err("--recycles N --reactor M: N + 2 M is at most 20".into()),
+    let [.., recycles, reactor, leachate] = options;
+    match (recycles.saturating_add(reactor.saturating_mul(2)), leachate) {
+        (21.., _) => Err("--recycles N --reactor M: N + 2 M is at most 20".into()),
+        (_, 101..) => Err("--leachate N: N is at most 100".into()),
+        _ => Ok(options),
     }
 }
 
 /// Runs every size and prints its table; gives how many balances of the proved link are open.
-fn run([seed, runs, number, recycles, reactor]: [u64; 5]) -> u64 {
+fn run([seed, runs, number, recycles, reactor, leachate]: [u64; 6]) -> u64 {
     println!("What the floating-point link loses: seed {seed}, {runs} runs of {number} calls each");
     if recycles > 0 {
         println!("{recycles} of a hundred calls recycle in the place of a release");
@@ -538,7 +582,10 @@ fn run([seed, runs, number, recycles, reactor]: [u64; 5]) -> u64 {
             "{reactor} of a hundred calls draw and {reactor} accept in the place of a release"
         );
     }
-    let calls = Calls { number, recycles, reactor };
+    if leachate > 0 {
+        println!("{leachate} of a hundred receives are of leachate");
+    }
+    let calls = Calls { number, recycles, reactor, leachate };
     let mut open = 0;
     for (number, size) in SIZES.iter().enumerate() {
         let mut report = Report::default();
@@ -546,7 +593,7 @@ fn run([seed, runs, number, recycles, reactor]: [u64; 5]) -> u64 {
             let mut random = Random::nth(seed, run * SIZES.len() as u64 + number as u64);
             one_run(&mut random, size, &calls, &mut report);
         }
-        report.print(size, runs);
+        report.print(size, runs, &calls);
         open += report.rows.iter().map(|row| row.proved_open).sum::<u64>();
     }
     open

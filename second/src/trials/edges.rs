@@ -3,19 +3,19 @@
 
 use super::amounts::{self, Scale};
 use super::thousandths;
-use crate::convert::{self, Inerts};
+use crate::convert::{self, Before, Inerts};
 use crate::figures::Figures;
 use crate::plant::{draw, Plant};
 use crate::random::Random;
 use crate::tables::*;
 
 /// Adds to a column of a received vector what brings the sum to a target; none where it is past it.
-fn bring(v: &mut Asm1, sum: &Asm1, column: usize, target: u64) {
+pub fn bring(v: &mut Asm1, sum: &Asm1, column: usize, target: u64) {
     v[column] += target.saturating_sub(sum[column]);
 }
 
 /// This number, one less or one more.
-fn nudged(random: &mut Random, number: u64) -> u64 {
+pub fn nudged(random: &mut Random, number: u64) -> u64 {
     (number + random.below(3)).saturating_sub(1)
 }
 
@@ -33,10 +33,7 @@ pub fn receive_to_edge(random: &mut Random, scale: &Scale, sludge: &Asm1) -> Asm
 
 /// Moves one column of the received vector so that the sum stands at an edge.
 fn one_edge(random: &mut Random, figures: &Figures, v: &mut Asm1, sum: &Asm1) {
-    let burn = convert::burn(sum);
-    let left = convert::left_after(sum, burn.burnt);
-    let saa = convert::amino_acids(figures, sum, left[0]);
-    let inerts = convert::inerts(figures, sum, saa);
+    let Before { burn, left, inerts, .. } = convert::before_covering(figures, sum);
     let (column, target) = match random.below(7) {
         0 => (asm1::SO, nudged(random, burn.available)),
         1 => nitrate_edge(random, burn.available - burn.oxygen),
@@ -82,7 +79,7 @@ fn composite_edge(
     left: &[u64; 4],
     inerts: &Inerts,
 ) -> (usize, u64) {
-    let rest = left[1] + left[2] + left[3] + sum[asm1::XI] + sum[asm1::XP] - inerts.xi;
+    let rest = convert::rest(sum, left, inerts.xi);
     let missing = (inerts.need + nxc * rest).saturating_sub(inerts.pool);
     (asm1::XND, nudged(random, sum[asm1::XND] + missing))
 }

@@ -3,6 +3,7 @@
 //! - `figures`: sets of figures, permitted and out of bounds;
 //! - `amounts`: columns, vectors and records of every size;
 //! - `edges`: vectors and records at the points where the rules branch;
+//! - `leachate`: vectors whose inerts need the nitrogen of amino acids;
 //! - `proposals`: settles that close or just do not, and proposals to be closed;
 //! - `damage`: lines that are no forms any more, or nearly not;
 //! - `order`: lines whose fields stand in another order than their columns;
@@ -21,6 +22,7 @@ pub mod blends;
 pub mod damage;
 pub mod edges;
 pub mod figures;
+pub mod leachate;
 pub mod lists;
 pub mod order;
 pub mod previews;
@@ -43,7 +45,7 @@ use std::io::Write;
 
 /// A line that follows from the one before it, so that together they reach an edge.
 enum Step {
-    FeedAll,
+    Feed(u64),
     Settle,
     ReturnAll,
     Recycle(u64),
@@ -135,6 +137,7 @@ impl Trial {
             2..=4 => edges::record_at_edge(&mut self.random, &self.scale),
             5 => self.record_to_recycle(),
             6 => self.record_to_accept(),
+            7 => self.record_to_feed(),
             _ => amounts::record(&mut self.random, &self.scale),
         };
         if self.random.percent(4) {
@@ -184,6 +187,15 @@ impl Trial {
         plant
     }
 
+    /// A record with a sludge tank of which the feed asked for next draws a leachate.
+    fn record_to_feed(&mut self) -> Plant {
+        let (random, scale) = (&mut self.random, &self.scale);
+        let within = amounts::record_within(random, scale);
+        let (sludge, k) = leachate::sludge(random, scale);
+        self.steps.push_front(Step::Feed(k));
+        Plant { sludge, ..within }
+    }
+
     /// The next line for this record, without its newline. In twenty, two come behind their own
     /// preview, one as its preview alone, and one as nearly a preview.
     pub fn line(&mut self, plant: &Plant) -> Vec<u8> {
@@ -223,7 +235,7 @@ impl Trial {
         self.follow(plant);
         let figures = &self.scale.figures;
         match self.steps.pop_front() {
-            Some(Step::FeedAll) => Call::Feed(1000),
+            Some(Step::Feed(k)) => Call::Feed(k),
             Some(Step::Settle) => proposals::settle(&mut self.random, figures, &plant.digester),
             Some(Step::ReturnAll) => Call::Return(1000),
             Some(Step::Recycle(k)) => Call::Recycle(k),
@@ -239,14 +251,15 @@ impl Trial {
         }
     }
 
-    /// An ASM1 vector to be converted by itself: the sludge, one at an edge of the feed, one
-    /// with a column above its ceiling, or any.
+    /// An ASM1 vector to be converted by itself: the sludge, one at an edge of the feed, a leachate,
+    /// one with a column above its ceiling, or any.
     pub fn asm1(&mut self, plant: &Plant) -> Asm1 {
         self.follow(plant);
         let (random, scale) = (&mut self.random, &self.scale);
         let mut v = match random.below(10) {
             0 | 1 => plant.sludge,
-            2..=5 => edges::receive_to_edge(random, scale, &[0; 13]),
+            2..=4 => edges::receive_to_edge(random, scale, &[0; 13]),
+            5 | 6 => leachate::receive(random, scale, &[0; 13]),
             _ => amounts::asm1(random, scale),
         };
         if random.percent(5) {
@@ -304,9 +317,13 @@ impl Trial {
     fn free_call(&mut self, plant: &Plant) -> Call {
         let random = &mut self.random;
         match random.below(112) {
-            0..=23 => Call::Receive(amounts::asm1(random, &self.scale)),
+            0..=16 => Call::Receive(amounts::asm1(random, &self.scale)),
+            17..=23 => {
+                self.steps.push_back(Step::Feed(1000));
+                Call::Receive(leachate::receive(random, &self.scale, &plant.sludge))
+            }
             24..=37 => {
-                self.steps.push_back(Step::FeedAll);
+                self.steps.push_back(Step::Feed(1000));
                 Call::Receive(edges::receive_to_edge(random, &self.scale, &plant.sludge))
             }
             38..=52 => Call::Feed(thousandths(random)),
@@ -360,7 +377,7 @@ impl Trial {
     fn same_water(&mut self) -> Call {
         for _ in 0..self.random.one_of(&[2, 3, 5]) {
             let k = thousandths(&mut self.random);
-            self.steps.extend([Step::FeedAll, Step::Settle, Step::ReturnAll]);
+            self.steps.extend([Step::Feed(1000), Step::Settle, Step::ReturnAll]);
             if self.random.percent(40) {
                 self.steps.push_back(Step::ThroughReactor);
             }
@@ -374,7 +391,7 @@ impl Trial {
         let off = self.random.one_of(&[-1, 0, 0, 1]);
         let more = self.random.one_of(&[0, 0, 0, 1]);
         self.steps.push_back(Step::ReceiveToMultiple(off));
-        self.steps.push_back(Step::FeedAll);
+        self.steps.push_back(Step::Feed(1000));
         self.steps.push_back(Step::SettleInerts(more));
         self.steps.push_back(Step::ReturnAll);
         Call::Feed(1000)

@@ -9,23 +9,28 @@
 --   feed-short, feed-taken         the two outcomes of the conversion
 --   feed-accepted                  what an accepted conversion is
 --   feed-keeps                     FeedLaw
+--   inerts-decide                  InertsLaw
+--   as-before                      AsBeforeLaw
 use mathlib.Core.Bool.{Bool, true, false, cond}
 use mathlib.Core.List.{List}
-use mathlib.Core.Path.{◌≡◌, refl, sym}
+use mathlib.Core.Path.{◌≡◌, refl, sym, ap, ap₂, ◌∙◌}
 use Prim.Native.Nat.{ℕ, zero, suc, ◌+◌, ◌-◌, ◌*◌, ◌/◌, ◌≤◌, ◌<◌, min}
 use native.Mathlib.Nat.{mul_comm, mul-div-le, lt-mul-div-succ, le-div_iff_mul-le, div-lt_iff_lt-mul, div-le_of_le-mul, div-eq_of_lt-le}
 use native.Mathlib.Nat.{min-le_right, min-eq_left, min-eq_right, mul-le-mul_left, le_of_lt}
 use native.Mathlib.Omega.{arith}
 use lib.Dec.{leb, ltb}
-use borrow.Author.Tests.{leb-true, leb-false, ltb-false}
-use Rattle.std.specs.Prelude.{Ok, Err}
+use borrow.Author.Tests.{leb-true, leb-false, ltb-true, ltb-false, le-ltb}
+use Rattle.std.specs.Prelude.{Result, Ok, Err}
+use Rattle.refusals.specs.declared.Refusal.{Refusal}
 use Rattle.refusals.specs.declared.Refusal.TheVariants.{FeedShort}
 use Rattle.vectors.specs.declared.figures.Figures.{Figures}
 use Rattle.interface.specs.declared.feed.Fed.{Fed}
-use Rattle.vectors.specs.Columns.{Asm1, asm1}
+use Rattle.vectors.specs.Columns.{Asm1, asm1, digester}
+use Rattle.vectors.specs.Totals.{asm1_tkn}
 use Rattle.interface.specs.Feed.{NitrateRule, nitrate_rule, ceil, warn_of, Stage1, Stage2, Stage4}
 use Rattle.interface.specs.Feed.{stage1, stage2, stage3, stage4, stage5, stages, feed_taken, feed_asm1, feed_of}
-use Rattle.interface.specs.Laws.{BurntLaw, CoveredLaw, ShortLaw, FeedLaw}
+use Rattle.interface.specs.Before.{stage4_before, stages_before, AsBeforeLaw}
+use Rattle.interface.specs.Laws.{BurntLaw, CoveredLaw, ShortLaw, FeedLaw, Suits, InertsLaw}
 use Rattle.vectors.proofs.Laws.Units.{afford, share-le}
 
 -- ---- stage 1
@@ -57,6 +62,53 @@ ceil-le m (suc n) x h = at-most (m + (suc n - 1)) (omega arith)
     at-most k under =
         let one : zero < suc n = omega arith in
         omega (arith, (div-lt_iff_lt-mul one).1 under)
+
+-- and above x where it is more
+ceil-under : (m n x : ℕ) → x < ceil m n → n * x < m
+ceil-under m n x h = go (leb m (n * x)) refl
+  where
+    go : (t : Bool) → leb m (n * x) ≡ t → n * x < m
+    go true e = absurd (omega (arith, h, ceil-le m n x (leb-true m (n * x) e)))
+    go false e = leb-false m (n * x) e
+
+-- n times it is at least the dividend
+ceil-ge : (m n : ℕ) → 1 ≤ n → m ≤ n * ceil m n
+ceil-ge m n h =
+    let under : m + (n - 1) < n * ((m + (n - 1)) / n + 1) = lt-mul-div-succ (m + (n - 1)) h in
+    omega (arith, under)
+
+-- of nothing it is nothing
+pub ceil-none : (m n : ℕ) → m ≡ 0 → n * ceil m n ≡ 0
+ceil-none m n e =
+    let none : ceil m n ≤ 0 = ceil-le m n 0 (omega (arith, e)) in
+    let zero-is : ceil m n ≡ 0 = omega (arith, none) in
+    ap (λ (x : ℕ). n * x) zero-is ∙ omega arith
+
+-- n times a difference
+less-of : (n a b : ℕ) → b ≤ a → n * (a - b) + n * b ≡ n * a
+less-of n a b h =
+    let whole : a - b + b ≡ a = omega arith in
+    omega (arith, ap (λ (x : ℕ). n * x) whole)
+
+-- of the nitrogen x of amino acids, y gives way to what pool and ammonia lack of q, and z is left
+given-way : (P h q x y z : ℕ) → z + y ≡ x → q - (P + h) ≤ y → (q - (P + h) ≡ 0 → y ≡ 0)
+    → (h - (q - P)) + (P - q + (y - (q - (P + h)))) + q + z ≡ h + P + x
+given-way P h q x y z e ge none = go (leb q (P + h)) refl
+  where
+    go : (t : Bool) → leb q (P + h) ≡ t → (h - (q - P)) + (P - q + (y - (q - (P + h)))) + q + z ≡ h + P + x
+    go true l =
+        let covered = leb-true q (P + h) l in
+        omega (arith, covered, e, none (omega (arith, covered)))
+    go false l = omega (arith, leb-false q (P + h) l, e, ge)
+
+-- what is left of a pool stays low: of y, which is low, something is left over only where the pool is used up
+pub pool-low : (P h q y : ℕ) → P ≤ 60_000_000_000_000_000 → y ≤ 60_000_000_000_000_000 → (q - (P + h) ≡ 0 → y ≡ 0)
+    → P - q + (y - (q - (P + h))) ≤ 60_000_000_000_000_000
+pool-low P h q y low small none = go (leb q (P + h)) refl
+  where
+    go : (t : Bool) → leb q (P + h) ≡ t → P - q + (y - (q - (P + h))) ≤ 60_000_000_000_000_000
+    go true l = omega (arith, low, none (omega (arith, leb-true q (P + h) l)))
+    go false l = omega (arith, leb-false q (P + h) l, small)
 
 -- n times what is at most a quotient by n
 reduced-le : (r n m : ℕ) → r ≤ m / n → n * r ≤ m
@@ -146,18 +198,34 @@ module _ (f : Figures) (v : Asm1) (s2 : Stage2) where
   unfolding stage3
   stage3-nitrogen h = omega arith
 
-module _ (f : Figures) (v : Asm1) (P : ℕ) where
-  pub stage4-cod : f.fxi ≤ 10000 → (stage4 f v P).xi ≤ v.xi + v.xp
+module _ (f : Figures) (v : Asm1) (s2 : Stage2) (P : ℕ) where
+  pub stage4-cod : f.fxi ≤ 10000 → (stage4 f v s2 P).xi ≤ v.xi + v.xp
   unfolding stage4
   stage4-cod h = share-le f.fxi 10000 (v.xi + v.xp) h
 
-  pub stage4-need : (stage4 f v P).q ≡ f.ni * (v.si + (stage4 f v P).xi)
+  pub stage4-need : (stage4 f v s2 P).q ≡ f.ni * (v.si + (stage4 f v s2 P).xi)
   unfolding stage4
   stage4-need = refl
 
-  pub stage4-nitrogen : (stage4 f v P).short ≡ false → (stage4 f v P).H' + (stage4 f v P).P' + (stage4 f v P).q ≡ v.snh + P
+  -- amino acids that give way become sugars
+  pub stage4-acids : (stage4 f v s2 P).short ≡ false → (stage4 f v s2 P).saa + (stage4 f v s2 P).ssu ≡ s2.saa + s2.ssu
   unfolding stage4
-  stage4-nitrogen e = omega (arith, ltb-false (P + v.snh) (stage4 f v P).q e)
+  stage4-acids e = omega (arith, ltb-false s2.saa (stage4 f v s2 P).g e)
+
+  -- with the nitrogen of the amino acids before and after
+  pub stage4-nitrogen : 1 ≤ f.naa → (stage4 f v s2 P).short ≡ false
+      → (stage4 f v s2 P).H' + (stage4 f v s2 P).P' + (stage4 f v s2 P).q + f.naa * (stage4 f v s2 P).saa ≡ v.snh + P + f.naa * s2.saa
+  unfolding stage4
+  stage4-nitrogen h e =
+      let s = stage4 f v s2 P in
+      let m : ℕ = s.q - (P + v.snh) in
+      given-way P v.snh s.q (f.naa * s2.saa) (f.naa * s.g) (f.naa * (s2.saa - s.g))
+      (less-of f.naa s2.saa s.g (ltb-false s2.saa s.g e)) (ceil-ge m f.naa h) (ceil-none m f.naa)
+
+  -- where it is short, all that there is lacks
+  pub stage4-lacks : (stage4 f v s2 P).short ≡ true → v.snh + P + f.naa * s2.saa < (stage4 f v s2 P).q
+  unfolding stage4
+  stage4-lacks e = omega (arith, ceil-under ((stage4 f v s2 P).q - (P + v.snh)) f.naa s2.saa (ltb-true s2.saa (stage4 f v s2 P).g e))
 
 module _ (f : Figures) (v : Asm1) (s1 : Stage1) (s4 : Stage4) where
   pub stage5-rest : s4.xi ≤ v.xi + v.xp → (stage5 f v s1 s4).R + s4.xi ≡ s1.xs + s1.xbh + s1.xba + v.xi + v.xp
@@ -215,18 +283,26 @@ module _ (f : Figures) (v : Asm1) (s2 : Stage2) where
   unfolding stage3
   stage3-is saa n left b biomass i inert s t P = cc
 
-module _ (f : Figures) (v : Asm1) (P : ℕ) where
-  pub stage4-is : {p i xi m q p' x h : ℕ} → p ≡ P → i ≡ v.xi + v.xp → xi ≡ f.fxi * i / 10000 → m ≡ v.si + xi
-      → q ≡ f.ni * m → p' ≡ p - q → x ≡ q - p → h ≡ v.snh - x
-      → (xi ≡ (stage4 f v P).xi) × (p' ≡ (stage4 f v P).P') × (h ≡ (stage4 f v P).H')
+module _ (f : Figures) (v : Asm1) (s2 : Stage2) (P : ℕ) where
+  pub stage4-is : {p i xi c q n m g : ℕ} → p ≡ P → i ≡ v.xi + v.xp → xi ≡ f.fxi * i / 10000 → c ≡ v.si + xi
+      → q ≡ f.ni * c → n ≡ p + v.snh → m ≡ q - n → g ≡ ceil m f.naa
+      → (xi ≡ (stage4 f v s2 P).xi) × (q ≡ (stage4 f v s2 P).q) × (m ≡ (stage4 f v s2 P).m) × (g ≡ (stage4 f v s2 P).g)
   unfolding stage4
-  stage4-is p i xi m q p' x h = (cc, cc, cc)
+  stage4-is p i xi c q n m g = (cc, cc, cc, cc)
 
   -- what the test of a shortage says
-  pub stage4-short-is : {p i xi m q n : ℕ} {short t : Bool} → p ≡ P → i ≡ v.xi + v.xp → xi ≡ f.fxi * i / 10000 → m ≡ v.si + xi
-      → q ≡ f.ni * m → n ≡ p + v.snh → short ≡ ltb n q → short ≡ t → (stage4 f v P).short ≡ t
+  pub stage4-short-is : {saa g : ℕ} {short t : Bool} → saa ≡ s2.saa → g ≡ (stage4 f v s2 P).g → short ≡ ltb saa g → short ≡ t
+      → (stage4 f v s2 P).short ≡ t
   unfolding stage4
-  stage4-short-is p i xi m q n short t = cc
+  stage4-short-is saa g short t = cc
+
+  -- what is left
+  pub stage4-left-is : {saa ssu p q m g saa' ssu' n over k p' x h : ℕ} → saa ≡ s2.saa → ssu ≡ s2.ssu → p ≡ P
+      → q ≡ (stage4 f v s2 P).q → m ≡ (stage4 f v s2 P).m → g ≡ (stage4 f v s2 P).g
+      → saa' ≡ saa - g → ssu' ≡ ssu + g → n ≡ f.naa * g → over ≡ n - m → k ≡ p - q → p' ≡ k + over → x ≡ q - p → h ≡ v.snh - x
+      → (saa' ≡ (stage4 f v s2 P).saa) × (ssu' ≡ (stage4 f v s2 P).ssu) × (p' ≡ (stage4 f v s2 P).P') × (h ≡ (stage4 f v s2 P).H')
+  unfolding stage4
+  stage4-left-is saa ssu p q m g saa' ssu' n over k p' x h = (cc, cc, cc, cc)
 
 module _ (f : Figures) (v : Asm1) (s1 : Stage1) (s4 : Stage4) where
   pub stage5-is : {xs xbh xba xi pool ammonia a b c d all xc rest xch xli m n sin : ℕ}
@@ -271,14 +347,126 @@ feed-keeps f h c o e =
     let a = feed-accepted f c o e in
     let v = asm1 c in
     let s = stages f v in
-    let xi = stage4-cod f v s.P h.fxi_le in
+    let xi = stage4-cod f v s.s2 s.P h.fxi_le in
     let rest = stage5-rest f v s.s1 s.s4 xi in
     let pool = stage3-nitrogen f v s.s2 (stage2-nitrogen f v s.s1) in
-    let inert = stage4-nitrogen f v s.P a.covered in
+    let inert = stage4-nitrogen f v s.s2 s.P h.naa_some a.covered in
+    let acids = stage4-acids f v s.s2 s.P a.covered in
     rw a.is
     (record {
-      cod = omega (arith, stage1-cod nitrate_rule v, stage2-cod f v s.s1, rest, stage5-cod f v s.s1 s.s4);
-      tkn = omega (arith, pool, stage4-need f v s.P, inert, stage5-nitrogen f v s.s1 s.s4);
+      cod = omega (arith, stage1-cod nitrate_rule v, stage2-cod f v s.s1, acids, rest, stage5-cod f v s.s1 s.s4);
+      tkn = omega (arith, pool, stage4-need f v s.s2 s.P, inert, stage5-nitrogen f v s.s1 s.s4);
       oxygen = omega (arith, stage1-oxygen nitrate_rule v);
       nitrate = omega (arith, stage1-nitrate nitrate_rule v);
     })
+
+-- ---- what decides over refusal 4
+
+-- a vector with this si and xi has at least the nitrogen that they need
+suits-need : (f : Figures) (c d : List ℕ) → Suits f c d → (stages f (asm1 c)).s4.q ≤ asm1_tkn f c
+suits-need f c d u =
+    let v = asm1 c in
+    let s = stages f v in
+    let inert : f.ni * ((digester d).si + (digester d).xi) ≡ f.ni * (v.si + s.s4.xi) =
+    ap₂ (λ (x y : ℕ). f.ni * (x + y)) u.si u.xi in
+    omega (arith, stage4-need f v s.s2 s.P, inert, u.tkn)
+
+-- the drawn TKN is what the inerts can have
+tkn-of : (f : Figures) (c : List ℕ)
+    → asm1_tkn f c ≡ (asm1 c).snh + (stages f (asm1 c)).P + f.naa * (stages f (asm1 c)).s2.saa
+tkn-of f c =
+    let v = asm1 c in
+    let s = stages f v in
+    omega (arith, stage3-nitrogen f v s.s2 (stage2-nitrogen f v s.s1))
+
+refused-is : (f : Figures) (c : List ℕ) → feed_of f c ≡ Err FeedShort → (stages f (asm1 c)).s4.short ≡ true
+unfolding feed_asm1
+refused-is f c e = go (stages f (asm1 c)).s4.short e
+  where
+    go : (t : Bool) → cond t (Err FeedShort) (Ok (feed_taken (asm1 c) (stages f (asm1 c)))) ≡ Err FeedShort → t ≡ true
+    go true q = refl
+    go false q = absurd (cc q)
+
+-- no other refusal is given
+err-short : (f : Figures) (c : List ℕ) (r : Refusal) → feed_of f c ≡ Err r → r ≡ FeedShort
+unfolding feed_asm1
+err-short f c r e = go (stages f (asm1 c)).s4.short e
+  where
+    go : (t : Bool) → cond t (Err FeedShort) (Ok (feed_taken (asm1 c) (stages f (asm1 c)))) ≡ Err r → r ≡ FeedShort
+    go true q = cc q
+    go false q = absurd (cc q)
+
+pub inerts-decide : InertsLaw
+inerts-decide f h c = record { refused = refused; none = none (feed_of f c) refl; accepted = accepted }
+  where
+    refused : feed_of f c ≡ Err FeedShort → (d : List ℕ) → Suits f c d → ⊥
+    refused e d u =
+        let v = asm1 c in
+        let s = stages f v in
+        omega (arith, stage4-lacks f v s.s2 s.P (refused-is f c e), suits-need f c d u, tkn-of f c)
+
+    accepted : (o : Fed) → feed_of f c ≡ Ok o → Suits f c o.vector
+    accepted o e =
+        let a = feed-accepted f c o e in
+        let k = feed-keeps f h c o e in
+        record {
+          si = ap (λ (x : Fed). (digester x.vector).si) a.is;
+          xi = ap (λ (x : Fed). (digester x.vector).xi) a.is;
+          tkn = sym k.tkn;
+        }
+
+    none : (r : Result Fed Refusal) → feed_of f c ≡ r → ((d : List ℕ) → Suits f c d → ⊥) → feed_of f c ≡ Err FeedShort
+    none (Ok o) e never = absurd (never o.vector (accepted o e))
+    none (Err r) e never = e ∙ ap Err (err-short f c r e)
+
+-- ---- what did not change
+
+-- stage 4 where nothing was lacking
+stage4-as-before : (f : Figures) (v : Asm1) (s2 : Stage2) (P : ℕ) → (stage4_before f v s2 P).short ≡ false
+    → stage4_before f v s2 P ≡ stage4 f v s2 P
+unfolding stage4_before stage4
+stage4-as-before f v s2 P e = λ i. record {
+  xi = s.xi;
+  q = s.q;
+  m = m i;
+  g = g i;
+  saa = saa i;
+  ssu = ssu i;
+  P' = pool i;
+  H' = s.H';
+  short = short i;
+}
+  where
+    s : Stage4
+    s = stage4 f v s2 P
+
+    covered : s.q ≤ P + v.snh
+    covered = ltb-false (P + v.snh) s.q e
+
+    m : 0 ≡ s.m
+    m = omega (arith, covered)
+
+    g : 0 ≡ s.g
+    g = omega (arith, ceil-le s.m f.naa 0 (omega (arith, covered)))
+
+    saa : s2.saa ≡ s.saa
+    saa = omega (arith, g)
+
+    ssu : s2.ssu ≡ s.ssu
+    ssu = omega (arith, g)
+
+    pool : P - s.q ≡ s.P'
+    pool = omega (arith, ceil-none s.m f.naa (sym m))
+
+    short : ltb (P + v.snh) s.q ≡ s.short
+    short = e ∙ sym (le-ltb s2.saa s.g (omega (arith, g)))
+
+pub as-before : AsBeforeLaw
+as-before f c o e =
+    let v = asm1 c in
+    let s = stages f v in
+    let p = passed (stages_before f v).s4.short (feed_taken v (stages_before f v)) o e in
+    let same = stage4-as-before f v s.s2 s.P p.0 in
+    sym (feed-taken f v (ap (λ (x : Stage4). x.short) (sym same) ∙ p.0))
+    ∙ ap (λ (x : Stage4). Ok (feed_taken v (record { s1 = s.s1; s2 = s.s2; P = s.P; s4 = x; s5 = stage5 f v s.s1 x }))) (sym same)
+    ∙ ap Ok (sym p.1)

@@ -6,4 +6,4 @@ use Rattle.interface.specs.Plants.{PlantsHold}
 
 pub plants-hold : PlantsHold
 unfolding stage1 stage2 stage3 stage4 stage5 feed_asm1 taken return_short return_digester
-plants-hold = (refl, (refl, (refl, (refl, (refl, (refl, (refl, (refl, (refl, (refl, (refl, (refl, (refl, tt)))))))))))))
+plants-hold = (refl, (refl, (refl, (refl, (refl, (refl, (refl, (refl, (refl, (refl, (refl, (refl, (refl, (refl, (refl, (refl, (refl, tt)))))))))))))))))

@@ -106,7 +106,7 @@ fn line(
     let told = host::line(record.array(), read.inner(), lent.inner());
     let mut buffer = setting.buffer();
     let answer = lines::answer(plant, line, buffer.inner()).to_vec();
-    tally.add(kind_of(line), refusal_of(&answer));
+    tally.add(kind_of(line, &setting.before), refusal_of(&answer));
     balances.count_line(line, &answer);
     let compared = setting.compare((plant, &buffer, answer.len()), (&record, &lent, told));
     let line_as_it_was = Guarded::new(line, byte_pattern(setting.salt));

@@ -12,7 +12,7 @@ use second::figures::Figures;
 use second::plant::{Call, Plant, Record, Refusal};
 use second::random::Random;
 use second::tables::{Asm1, Digester};
-use second::trials::{figures, Trial};
+use second::trials::{figures, leachate, Trial};
 use second::{host, numbers};
 
 /// What a call by numbers can be lent; `number` is its k, its gas or its nitrite.
@@ -169,12 +169,28 @@ fn told<'a>(call: &Call, after: &'a Lent) -> &'a [u64] {
     }
 }
 
+/// The feed of k thousandths of this record, in its row.
+fn feed_of(plant: &Plant, k: u64) -> ByNumbers {
+    match leachate::gives_way_in_feed(plant, k) {
+        true => ByNumbers { kind: "  feed, acids give way", ..FEED },
+        false => FEED,
+    }
+}
+
+/// The conversion of this vector by itself, in its row.
+fn conversion_of(figures: &[u64; 9], v: &Asm1) -> ByNumbers {
+    match leachate::gives_way(&Figures::from_numbers(figures), v) {
+        true => ByNumbers { kind: "  alone, acids give way", ..ASM_TO_ADM },
+        false => ASM_TO_ADM,
+    }
+}
+
 /// Makes a call on the list's record, which goes on as it is then.
 fn on_record(trial: &mut Trial, list: &mut List, tally: &mut Tally) -> Result<(), Difference> {
     let (on, call) = (Input::on(&list.plant), trial.call(&list.plant));
     let (by_numbers, input) = match call {
         Call::Receive(v) => (RECEIVE, Input { v, ..on }),
-        Call::Feed(k) => (FEED, Input { number: k, ..on }),
+        Call::Feed(k) => (feed_of(&list.plant, k), Input { number: k, ..on }),
         Call::Settle(gas, d) => (SETTLE, Input { number: gas, d, ..on }),
         Call::Return(k) => (RETURN, Input { number: k, ..on }),
         Call::Release(k) => (RELEASE, Input { number: k, ..on }),
@@ -246,7 +262,10 @@ pub fn make(
 fn conversion(trial: &mut Trial, plant: &Plant, tally: &mut Tally) -> Result<(), Difference> {
     let (figures, on) = (handed(&mut trial.random, plant), Input::on(plant));
     let (call, input) = match trial.random.percent(53) {
-        true => (ASM_TO_ADM, Input { figures, v: trial.asm1(plant), ..on }),
+        true => {
+            let v = trial.asm1(plant);
+            (conversion_of(&figures, &v), Input { figures, v, ..on })
+        }
         false => (ADM_TO_ASM, Input { figures, d: trial.digester(plant), ..on }),
     };
     by_both(call, &input, trial.random.any(), tally).map(|_| ())

@@ -21,13 +21,14 @@ use std::time::Duration;
 /// How long the program may take to give an answer that it owes.
 const PATIENCE: Duration = Duration::from_secs(20);
 
-/// A session: the program's words and the record they ask for, its bytes, its lines, and the
-/// answers the second implementation gives.
+/// A session: the program's words and the record they ask for, its bytes, its lines with their
+/// kinds, and the answers the second implementation gives.
 struct Session {
     words: Vec<String>,
     start: Plant,
     bytes: Vec<u8>,
     lines: Vec<Vec<u8>>,
+    kinds: Vec<&'static str>,
     answers: Vec<Vec<u8>>,
 }
 
@@ -65,8 +66,7 @@ fn words_and_record(random: &mut Random) -> (Vec<String>, Plant) {
 fn make_session(random: Random) -> Session {
     let mut trial = Trial::new(random);
     let (words, start) = words_and_record(&mut trial.random);
-    let (bytes, lines, answers) = (Vec::new(), Vec::new(), Vec::new());
-    let mut session = Session { words, start, bytes, lines, answers };
+    let mut session = Session::empty(words, start);
     let mut plant = start;
     for _ in 0..session_length(&mut trial.random) {
         let before = session.bytes.len();
@@ -89,9 +89,16 @@ fn make_session(random: Random) -> Session {
 }
 
 impl Session {
+    /// No lines yet.
+    fn empty(words: Vec<String>, start: Plant) -> Session {
+        let (bytes, lines, kinds, answers) = (Vec::new(), Vec::new(), Vec::new(), Vec::new());
+        Session { words, start, bytes, lines, kinds, answers }
+    }
+
     /// Answers one more line.
     fn answer(&mut self, plant: &mut Plant, line: &[u8]) {
         let mut buffer = [0; 512];
+        self.kinds.push(kind_of(line, plant));
         self.answers.push(lines::answer(plant, line, &mut buffer).to_vec());
         self.lines.push(line.to_vec());
     }
@@ -109,9 +116,8 @@ impl Session {
 
     /// The session of its first lines alone, each with a newline.
     fn first(&self, number: usize) -> Session {
-        let (bytes, lines, answers) = (Vec::new(), Vec::new(), Vec::new());
-        let (words, start, mut plant) = (self.words.clone(), self.start, self.start);
-        let mut first = Session { words, start, bytes, lines, answers };
+        let mut plant = self.start;
+        let mut first = Session::empty(self.words.clone(), plant);
         for line in &self.lines[..number] {
             first.bytes.extend(line);
             first.bytes.push(b'\n');
@@ -129,8 +135,8 @@ impl Session {
 
     /// Counts its answers.
     fn tally(&self, tally: &mut Tally) {
-        for (line, answer) in self.lines.iter().zip(&self.answers) {
-            tally.add(kind_of(line), refusal_of(answer));
+        for (kind, answer) in self.kinds.iter().zip(&self.answers) {
+            tally.add(kind, refusal_of(answer));
         }
         tally.add("held", 0);
         if !self.words.is_empty() {

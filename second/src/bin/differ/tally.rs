@@ -1,23 +1,26 @@
 //! How many answers of each kind were accepted, and refused by each number.
 
 use second::lines::{self, Asked};
-use second::plant::Call;
+use second::plant::{Call, Plant};
+use second::trials::leachate::gives_way_in_feed;
 use second::trials::order::is_out_of_order;
 use second::trials::previews::is_nested;
 use std::ops::RangeInclusive;
 
-/// The kinds of answers: lines by the call they ask or preview, or where they are no forms, apart
-/// those that are none for the order of their fields alone and previews inside previews; the held
-/// line; the sets behind `--figures`; the functions that are called by numbers; sheets that are
+/// The kinds of answers: lines by the call they ask or preview, below feeds those in which amino
+/// acids give way, or where they are no forms, apart those that are none for the order of their
+/// fields alone and previews inside previews; the held line; the sets behind `--figures`; the functions that are called by numbers; sheets that are
 /// made for their record and those of the table stand below the others; so do blends of one load
 /// and of eight, those whose lengths are turned away, those that are made for their record, and
-/// those in another order; and accepts that are made for their record; a gap that is told stands
+/// those in another order; feeds and conversions in which amino acids give way; and accepts that are
+/// made for their record; a gap that is told stands
 /// by where it is; the functions that write a call's line, below each the same for its preview;
 /// and lengths of answers by the refusal of the record that a list begins from, below the lists
 /// whose lines all count the longer ones and the sessions of the program.
-const KINDS: [&str; 72] = [
+const KINDS: [&str; 76] = [
     "receive",
     "feed",
+    "  acids give way",
     "settle",
     "return",
     "release",
@@ -26,6 +29,7 @@ const KINDS: [&str; 72] = [
     "accept",
     "preview of receive",
     "preview of feed",
+    "  acids would give way",
     "preview of settle",
     "preview of return",
     "preview of release",
@@ -52,6 +56,7 @@ const KINDS: [&str; 72] = [
     "  blend at the ceilings",
     "  in another order",
     "jilghvani_feed",
+    "  feed, acids give way",
     "jilghvani_settle",
     "jilghvani_return",
     "jilghvani_release",
@@ -61,6 +66,7 @@ const KINDS: [&str; 72] = [
     "  accept at the ceilings",
     "jilghvani_totals",
     "jilghvani_asm_to_adm",
+    "  alone, acids give way",
     "jilghvani_adm_to_asm",
     "jilghvani_close",
     "  settle of what closed",
@@ -104,9 +110,13 @@ fn kinds_of_call(call: &Call) -> (&'static str, &'static str) {
     }
 }
 
-/// Which kind a line is.
-pub fn kind_of(line: &[u8]) -> &'static str {
+/// Which kind a line is that is answered on this record.
+pub fn kind_of(line: &[u8], plant: &Plant) -> &'static str {
     match lines::read(line) {
+        Some(Asked::Call(Call::Feed(k))) if gives_way_in_feed(plant, k) => "  acids give way",
+        Some(Asked::Preview(Call::Feed(k))) if gives_way_in_feed(plant, k) => {
+            "  acids would give way"
+        }
         Some(Asked::Call(call)) => kinds_of_call(&call).0,
         Some(Asked::Preview(call)) => kinds_of_call(&call).1,
         None if is_out_of_order(line) => "out of order",

@@ -1,5 +1,5 @@
 -- `interface::claims::laws_hold` meets its contract. Assumes nothing.
-use Rattle.interface.proofs.Laws.Feed.{burnt-law, covered-law, short-law, feed-keeps}
+use Rattle.interface.proofs.Laws.Feed.{burnt-law, covered-law, short-law, feed-keeps, inerts-decide, as-before}
 use Rattle.interface.proofs.Laws.Return.{return-keeps}
 use Rattle.interface.proofs.Laws.Plants.{plants-hold}
 use Rattle.interface.proofs.claims.laws_hold.Goals as goal
@@ -12,6 +12,12 @@ returns-clause-covered c = covered-law
 
 pub returns-clause-short : goal.returns-clause-short
 returns-clause-short c = short-law
+
+pub returns-clause-inerts : goal.returns-clause-inerts
+returns-clause-inerts c = inerts-decide
+
+pub returns-clause-before : goal.returns-clause-before
+returns-clause-before c = as-before
 
 pub returns-clause-feed : goal.returns-clause-feed
 returns-clause-feed c = feed-keeps
