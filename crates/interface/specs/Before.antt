@@ -3,14 +3,15 @@
 --
 --   stage4_before   stage 4 then: 4 where q > P + snh
 --   feed_before     the conversion then
---   AsBeforeLaw     a feed that was accepted then gives now what it gave. proofs/Laws/Feed.antt proves it: as-before
-use Rattle.std.specs.Prelude.{cond, Result, Ok, Err, List, ◌≡◌, ℕ, ◌+◌, ◌-◌, ◌*◌, ◌/◌, ltb}
+--   AsBefore        a feed that was accepted then gives now what it gave, and one that was refused then lacks nitrogen in pool and ammonia
+--   AsBeforeLaw     so for every set of figures and every vector. proofs/Laws/Feed.antt proves it: as-before
+use Rattle.std.specs.Prelude.{cond, Result, Ok, Err, List, ◌≡◌, ℕ, ◌+◌, ◌-◌, ◌*◌, ◌/◌, ◌<◌, ltb}
 use Rattle.refusals.specs.declared.Refusal.{Refusal}
 use Rattle.refusals.specs.declared.Refusal.TheVariants.{FeedShort}
 use Rattle.vectors.specs.declared.figures.Figures.{Figures}
 use Rattle.vectors.specs.Columns.{Asm1, asm1}
 use Rattle.interface.specs.declared.feed.Fed.{Fed}
-use Rattle.interface.specs.Feed.{nitrate_rule, Stage2, Stage4, Stages, stage1, stage2, stage3, stage5, feed_taken, feed_of}
+use Rattle.interface.specs.Feed.{nitrate_rule, Stage2, Stage4, Stages, stage1, stage2, stage3, stage5, stages, feed_taken, feed_of}
 
 -- no amino acids give way
 unfoldable pub stage4_before : Figures → Asm1 → Stage2 → ℕ → Stage4
@@ -40,5 +41,9 @@ stages_before f v =
 abbrev pub feed_before : Figures → List ℕ → Result Fed Refusal
 feed_before f c = let s = stages_before f (asm1 c) in cond s.s4.short (Err FeedShort) (Ok (feed_taken (asm1 c) s))
 
+pub record AsBefore (f : Figures) (c : List ℕ) : Type 0 where
+  pub same : (o : Fed) → feed_before f c ≡ Ok o → feed_of f c ≡ Ok o
+  pub other : (r : Refusal) → feed_before f c ≡ Err r → 0 < (stages f (asm1 c)).s4.m
+
 abbrev pub AsBeforeLaw : Type 0
-AsBeforeLaw = (f : Figures) (c : List ℕ) (o : Fed) → feed_before f c ≡ Ok o → feed_of f c ≡ Ok o
+AsBeforeLaw = (f : Figures) (c : List ℕ) → AsBefore f c

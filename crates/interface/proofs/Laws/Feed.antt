@@ -29,7 +29,7 @@ use Rattle.vectors.specs.Columns.{Asm1, asm1, digester}
 use Rattle.vectors.specs.Totals.{asm1_tkn}
 use Rattle.interface.specs.Feed.{NitrateRule, nitrate_rule, ceil, warn_of, Stage1, Stage2, Stage4}
 use Rattle.interface.specs.Feed.{stage1, stage2, stage3, stage4, stage5, stages, feed_taken, feed_asm1, feed_of}
-use Rattle.interface.specs.Before.{stage4_before, stages_before, AsBeforeLaw}
+use Rattle.interface.specs.Before.{stage4_before, stages_before, feed_before, AsBeforeLaw}
 use Rattle.interface.specs.Laws.{BurntLaw, CoveredLaw, ShortLaw, FeedLaw, Suits, InertsLaw}
 use Rattle.vectors.proofs.Laws.Units.{afford, share-le}
 
@@ -379,22 +379,14 @@ tkn-of f c =
     let s = stages f v in
     omega (arith, stage3-nitrogen f v s.s2 (stage2-nitrogen f v s.s1))
 
-refused-is : (f : Figures) (c : List ℕ) → feed_of f c ≡ Err FeedShort → (stages f (asm1 c)).s4.short ≡ true
-unfolding feed_asm1
-refused-is f c e = go (stages f (asm1 c)).s4.short e
-  where
-    go : (t : Bool) → cond t (Err FeedShort) (Ok (feed_taken (asm1 c) (stages f (asm1 c)))) ≡ Err FeedShort → t ≡ true
-    go true q = refl
-    go false q = absurd (cc q)
+-- a refusal tells of its test, and is 4
+sent : (t : Bool) (x : Fed) (r : Refusal) → cond t (Err FeedShort) (Ok x) ≡ Err r → (t ≡ true) × (r ≡ FeedShort)
+sent true x r e = (refl, cc e)
+sent false x r e = absurd (cc e)
 
--- no other refusal is given
-err-short : (f : Figures) (c : List ℕ) (r : Refusal) → feed_of f c ≡ Err r → r ≡ FeedShort
+feed-sent : (f : Figures) (c : List ℕ) (r : Refusal) → feed_of f c ≡ Err r → ((stages f (asm1 c)).s4.short ≡ true) × (r ≡ FeedShort)
 unfolding feed_asm1
-err-short f c r e = go (stages f (asm1 c)).s4.short e
-  where
-    go : (t : Bool) → cond t (Err FeedShort) (Ok (feed_taken (asm1 c) (stages f (asm1 c)))) ≡ Err r → r ≡ FeedShort
-    go true q = cc q
-    go false q = absurd (cc q)
+feed-sent f c r e = sent (stages f (asm1 c)).s4.short (feed_taken (asm1 c) (stages f (asm1 c))) r e
 
 pub inerts-decide : InertsLaw
 inerts-decide f h c = record { refused = refused; none = none (feed_of f c) refl; accepted = accepted }
@@ -403,7 +395,7 @@ inerts-decide f h c = record { refused = refused; none = none (feed_of f c) refl
     refused e d u =
         let v = asm1 c in
         let s = stages f v in
-        omega (arith, stage4-lacks f v s.s2 s.P (refused-is f c e), suits-need f c d u, tkn-of f c)
+        omega (arith, stage4-lacks f v s.s2 s.P (feed-sent f c FeedShort e).0, suits-need f c d u, tkn-of f c)
 
     accepted : (o : Fed) → feed_of f c ≡ Ok o → Suits f c o.vector
     accepted o e =
@@ -417,7 +409,7 @@ inerts-decide f h c = record { refused = refused; none = none (feed_of f c) refl
 
     none : (r : Result Fed Refusal) → feed_of f c ≡ r → ((d : List ℕ) → Suits f c d → ⊥) → feed_of f c ≡ Err FeedShort
     none (Ok o) e never = absurd (never o.vector (accepted o e))
-    none (Err r) e never = e ∙ ap Err (err-short f c r e)
+    none (Err r) e never = e ∙ ap Err (feed-sent f c r e).1
 
 -- ---- what did not change
 
@@ -441,7 +433,7 @@ stage4-as-before f v s2 P e = λ i. record {
     s = stage4 f v s2 P
 
     covered : s.q ≤ P + v.snh
-    covered = ltb-false (P + v.snh) s.q e
+    covered = omega (arith, ltb-false _ _ e)
 
     m : 0 ≡ s.m
     m = omega (arith, covered)
@@ -458,11 +450,22 @@ stage4-as-before f v s2 P e = λ i. record {
     pool : P - s.q ≡ s.P'
     pool = omega (arith, ceil-none s.m f.naa (sym m))
 
-    short : ltb (P + v.snh) s.q ≡ s.short
+    short : (stage4_before f v s2 P).short ≡ s.short
     short = e ∙ sym (le-ltb s2.saa s.g (omega (arith, g)))
 
-pub as-before : AsBeforeLaw
-as-before f c o e =
+-- what was short then lacks
+stage4-lacked : (f : Figures) (v : Asm1) (s2 : Stage2) (P : ℕ) → (stage4_before f v s2 P).short ≡ true → 0 < (stage4 f v s2 P).m
+unfolding stage4_before stage4
+stage4-lacked f v s2 P e = omega (arith, ltb-true _ _ e)
+
+lacked-before : (f : Figures) (c : List ℕ) (r : Refusal) → feed_before f c ≡ Err r → 0 < (stages f (asm1 c)).s4.m
+lacked-before f c r e =
+    let v = asm1 c in
+    let s = stages_before f v in
+    stage4-lacked f v s.s2 s.P (sent s.s4.short (feed_taken v s) r e).0
+
+same-before : (f : Figures) (c : List ℕ) (o : Fed) → feed_before f c ≡ Ok o → feed_of f c ≡ Ok o
+same-before f c o e =
     let v = asm1 c in
     let s = stages f v in
     let p = passed (stages_before f v).s4.short (feed_taken v (stages_before f v)) o e in
@@ -470,3 +473,6 @@ as-before f c o e =
     sym (feed-taken f v (ap (λ (x : Stage4). x.short) (sym same) ∙ p.0))
     ∙ ap (λ (x : Stage4). Ok (feed_taken v (record { s1 = s.s1; s2 = s.s2; P = s.P; s4 = x; s5 = stage5 f v s.s1 x }))) (sym same)
     ∙ ap Ok (sym p.1)
+
+pub as-before : AsBeforeLaw
+as-before f c = record { same = same-before f c; other = lacked-before f c }
