@@ -21,7 +21,7 @@ pub fn write_line(buf: &mut [u8], asked: Asked) -> Result<usize, Refusal>
         return Err(Refusal::ShortBuffer);
     }
     let mut page = Page { bytes: buf, at: 0 };
-    put_entry(&mut page, asked);
+    put_entry(&mut page, &asked);
     page.put(b"\n");
     Ok(page.at)
 }
@@ -36,24 +36,25 @@ pub fn filled_line<'a>(buf: &'a mut [u8], asked: Asked) -> (&'a [u8], &'a [u8])
     split_filled(buf, n)
 }
 
-// A call, or a preview of it.
-fn put_entry(page: &mut Page, asked: Asked)
+// A call, or a preview of it. It is lent, as in `put_call`: both vectors stand in it, and each copy of them takes as long as the line of a
+// call with a number.
+fn put_entry(page: &mut Page, asked: &Asked)
     requires { HasRoom page.old 1024 }
-    ensures { (Wrote page.old (entry_text asked.preview asked.request) page.new) × (page.new.at ≤ page.old.at + 1024) }
+    ensures { (Wrote page.old (entry_text asked.now.preview asked.now.request) page.new) × (page.new.at ≤ page.old.at + 1024) }
 {
     if asked.preview {
         page.put(b"(preview ");
-        put_call(page, asked.request);
+        put_call(page, &asked.request);
         page.put(b")");
         return;
     }
-    put_call(page, asked.request);
+    put_call(page, &asked.request);
 }
 
 // A call in its brackets.
-fn put_call(page: &mut Page, r: Request)
+fn put_call(page: &mut Page, r: &Request)
     requires { HasRoom page.old 1000 }
-    ensures { (Wrote page.old (call_text r.call r.sludge r.digester) page.new) × (page.new.at ≤ page.old.at + 1000) }
+    ensures { (Wrote page.old (call_text r.now.call r.now.sludge r.now.digester) page.new) × (page.new.at ≤ page.old.at + 1000) }
 {
     match r.call {
         Call::Receive => {

@@ -34,20 +34,20 @@ fn sheet_at(kinds: &[u8; 13], values: &[f32; 13]) -> [Finding<f32>; 13]
 {
     let mut sheet = [Finding::NotSampled; 13];
     for i in 0..13 {
-        sheet[i] = finding_of(kinds[i], values[i]);
+        sheet[i] = finding_of(kinds[i], &values[i]);
     }
     sheet
 }
 
-// An entry by its kind, a number because C asks for it so. The value beside one that was not sampled is not read, and a kind that is none
-// stands for no number.
+// An entry by its kind, a number because C asks for it so. The value is read for kinds 0 and 1 alone, as the header says, so that it comes
+// as a reference; a kind that is none stands for no number.
 #[tactic(auto, using(crate::proofs::Laws::Sheet::no_number), unfolding(crate::specs::Sheet::finding_of))]
-fn finding_of(kind: u8, value: f32) -> Finding<f32>
-    ensures { result ≡ finding_of kind value }
+fn finding_of(kind: u8, value: &f32) -> Finding<f32>
+    ensures { result ≡ finding_of kind value.now }
 {
     match kind {
-        0 => Finding::Measured(value),
-        1 => Finding::BelowLimit(value),
+        0 => Finding::Measured(*value),
+        1 => Finding::BelowLimit(*value),
         2 => Finding::NotSampled,
         _ => Finding::Measured(f32::NAN),
     }

@@ -3,7 +3,10 @@
 --   Refusal     the enum of the code
 --   number      its number in the table
 --   number_of   the same, and 0 where there is none
-use Rattle.std.specs.Prelude.{ℕ, Option, None, Some}
+--   table       the refusals that the table has
+--   of_number   the table's refusal of a number, and Other where it has none
+--   in_table    whether a refusal is the table's
+use Rattle.std.specs.Prelude.{Bool, true, false, cond, ℕ, eqb, List, [], ◌∷◌, Option, None, Some}
 use Rattle.refusals.specs.declared.Refusal.{Refusal}
 use Rattle.refusals.specs.declared.Refusal.TheVariants.{RecordAbove, NotThousandths, ColumnAbove, FeedShort, ReturnShort, CodOpen}
 use Rattle.refusals.specs.declared.Refusal.TheVariants.{TknOpen, CarriedOpen, TankAbove, NoForm, ShortBuffer, NoAmount}
@@ -31,3 +34,19 @@ number (Other n) = n
 abbrev pub number_of : Option Refusal → ℕ
 number_of None = 0
 number_of (Some r) = number r
+
+abbrev pub table : List Refusal
+table =
+    RecordAbove ∷ NotThousandths ∷ ColumnAbove ∷ FeedShort ∷ ReturnShort ∷ CodOpen ∷ TknOpen ∷ CarriedOpen ∷ TankAbove
+    ∷ NoForm ∷ ShortBuffer ∷ NoAmount ∷ CountAbove ∷ NotPermitted ∷ NoBlend ∷ []
+
+abbrev pub found_in : List Refusal → ℕ → Refusal
+found_in [] n = Other n
+found_in (r ∷ rs) n = cond (eqb n (number r)) r (found_in rs n)
+
+abbrev pub of_number : ℕ → Refusal
+of_number n = found_in table n
+
+abbrev pub in_table : Refusal → Bool
+in_table (Other n) = false
+in_table r = true

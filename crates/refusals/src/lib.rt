@@ -3,7 +3,7 @@
 
 ghost use Rattle.std.specs.Prelude.{true, false, ◌≡◌, OnOk, IfErr};
 ghost use Rattle.refusals.specs.Refusal.{number};
-ghost use Rattle.refusals.specs.Laws.{SameLaw};
+ghost use Rattle.refusals.specs.Laws.{SameLaw, NumberLaw};
 
 // A refusal; the table's number stands behind each. 6, that more COD would be burnt than there is, is not used again (document 02, E8).
 // A host or a line may give any number, and of one that the table has not, the number is all that is known.
@@ -79,7 +79,8 @@ pub fn unless(holds: bool, r: Refusal) -> Result<(), Refusal>
     Err(r)
 }
 
-// The law of this crate, as the contract of a function that does nothing: it is proved, or the crate is not.
+// The laws of this crate, as the contract of a function that does nothing: they are proved, or the crate is not.
 pub fn laws_hold()
-    ensures { SameLaw }
+    ensures same { SameLaw }
+    ensures numbers { NumberLaw }
 {}

@@ -5,12 +5,14 @@
 --   read_answer      the answer that a text stands for
 --   all_short        every number that an answer tells has at most twenty digits, as every number of the code has
 --   by_number        an answer with its refusal by the number
+--   by_table         the other way: with the table's refusal of that number
+--   is_named         whether an answer's refusal, where it is one, is the table's, as of each call
 --   ReadBackLaw      reading what was written gives the answer back. proofs/Laws/ReadBack.antt proves it: answer-read
 --   ReadColumnsLaw   and the vector of a release, and of a draw: columns-read
---   SameTextLaw      two answers that differ are written differently: answer-same
+--   SameTextLaw      two answers that differ are written differently, but for one number by two refusals: answer-same
 use Rattle.std.specs.Prelude.{Bool, true, false, cond, List, [], ◌∷◌, ◌≡◌, ℕ, ◌+◌, ◌-◌, ◌*◌, ◌^◌, ◌<◌, eqb, length, drop, get_or}
 use Rattle.refusals.specs.declared.Refusal.TheVariants.{Other}
-use Rattle.refusals.specs.Refusal.{number}
+use Rattle.refusals.specs.Refusal.{number, of_number, in_table}
 use Rattle.vectors.specs.Units.{milligrams, ticks}
 use Rattle.plant.specs.declared.answer.Answer.{Answer}
 use Rattle.plant.specs.declared.answer.Answer.TheVariants.{Refused, Received, Fed, Settled, Returned, Released, Recycled, Drawn, Accepted}
@@ -73,13 +75,25 @@ by_number Recycled = Recycled
 by_number Drawn = Drawn
 by_number (Accepted m) = Accepted m
 
+-- the table's refusal of a number where it has one; an accepted answer stays
+abbrev pub by_table : Answer → Answer
+by_table (Refused r) = Refused (of_number (number r))
+by_table a = a
+
+abbrev pub is_named : Answer → Bool
+is_named (Refused r) = in_table r
+is_named a = true
+
+-- what is read back has the refusal by its number, and by the table it is the answer itself
 abbrev pub ReadBackLaw : Type 0
-ReadBackLaw = (a : Answer) (v : List ℕ) → all_short a → read_answer (answer_text a v) ≡ by_number a
+ReadBackLaw = (a : Answer) (v : List ℕ) → all_short a
+    → (read_answer (answer_text a v) ≡ by_number a) × (is_named a ≡ true → by_table (read_answer (answer_text a v)) ≡ a)
 
 abbrev pub ReadColumnsLaw : Type 0
 ReadColumnsLaw = (v : List ℕ) → length v ≡ 13 → ((k : ℕ) → short (get_or v k 0))
     → (numbers_in (answer_text Released v) ≡ v) × (numbers_in (answer_text Drawn v) ≡ v)
 
--- two answers that differ are written differently
+-- two answers that differ are written differently, but for refusals of one number of which one is not the table's
 abbrev pub SameTextLaw : Type 0
-SameTextLaw = (a b : Answer) (v w : List ℕ) → all_short a → all_short b → answer_text a v ≡ answer_text b w → by_number a ≡ by_number b
+SameTextLaw = (a b : Answer) (v w : List ℕ) → all_short a → all_short b → answer_text a v ≡ answer_text b w
+    → (by_number a ≡ by_number b) × (is_named a ≡ true → is_named b ≡ true → a ≡ b)

@@ -58,14 +58,16 @@ impl<'a> Page<'a> {
         self.put(b")");
     }
 
-    // A column in brackets behind a space: a name and a number.
+    // A column in brackets behind a space: a name and a number. The name is copied first: of bytes that might overlap the buffer the
+    // compiler makes a call of memmove, which the archive for C would need from outside.
     pub fn column(&mut self, name: &[u8; 4], n: u64)
         requires { HasRoom self.old 28 }
         ensures { (Wrote self.old (column_text (unpadded name.now) n) self.new) × (self.new.at ≤ self.old.at + 28) }
     {
         self.put(b" (");
-        let k = find_byte(name, 0, b' ');
-        self.put(&name[..k]);
+        let own = *name;
+        let k = find_byte(&own, 0, b' ');
+        self.put(&own[..k]);
         self.labelled(b" ", n);
         self.put(b")");
     }

@@ -174,7 +174,7 @@ module _ (q : Quantity) where
   unfolding step_by ruled
   step_kept p c v d =
       let rule = rule_by p c v d in
-      decide-case (Kept p c v) p (first rule.tests) rule.done (done-kept p c v d) (refused-kept p c v)
+      decide-case (Kept p c v) p (first rule.tests) rule.done (done-kept p c v d) (λ n e. refused-kept p c v n)
 
   recycle-kept : (p : Plant) (k : ℕ) → in_tanks p ≡ in_tanks (step p (recycling k)).plant
   unfolding step_by ruled recycle
@@ -182,7 +182,7 @@ module _ (q : Quantity) where
       let rule = recycle p k in
       decide-case (λ o. in_tanks p ≡ in_tanks o.plant) p (first rule.tests) rule.done
       (λ e. omega (arith, done-kept p (call.Recycle k) no_columns no_columns e, q.silent 0, q.no-nitrite))
-      (λ n. refl)
+      (λ n e. refl)
 
   -- ---- a list of calls, previews, sheets and blends
 
@@ -393,7 +393,7 @@ pub recycle-moves : MovesLaw
 unfolding step_by ruled recycle
 recycle-moves p k =
     let rule = recycle p k in
-    decide-case (Moved p (recycling k)) p (first rule.tests) rule.done (λ e. moved (at-draw p k _ e).0.1) (λ n. kept n)
+    decide-case (Moved p (recycling k)) p (first rule.tests) rule.done (λ e. moved (at-draw p k _ e).0.1) (λ n e. kept n)
   where
     moved : k ≤ 1000 → Moved p (recycling k) (recycle p k).done
     moved h =

@@ -159,7 +159,7 @@ unfolding step_by ruled
 figures-kept p r =
     let rule = rule_by p r.call r.sludge r.digester in
     let done = done-figures p r.call r.sludge r.digester in
-    decide-case (λ o. o.plant.figures ≡ p.figures) p (first rule.tests) rule.done (λ e. done) (λ n. refl)
+    decide-case (λ o. o.plant.figures ≡ p.figures) p (first rule.tests) rule.done (λ e. done) (λ n e. refl)
 
 -- ---- the clauses of a call's contract
 

@@ -7,7 +7,8 @@
 --   summed                        what the sludge tank would hold with a vector, or none
 --   stop-first, pass-first, last-is   the same where tests give a refusal or none, and what the last one gives
 --   flag                          a test of what a function gave is a test of what it stands for
---   decide-case                   what holds of the outcome where no refusal applies, and of every refusal, holds of the decision
+--   number-case                   what holds where a number is 0, and where it is not, holds of the choice by it
+--   decide-case                   what holds of the outcome where no refusal applies, and of the refusal that does, holds of the decision
 --   passed-by, passed, draw-passed   what no refusal tells of the tests
 --   number-passed-by, number-passed   the same by the number
 use mathlib.Core.Bool.{Bool, true, false}
@@ -15,7 +16,8 @@ use mathlib.Core.List.{List, [], ◌∷◌}
 use mathlib.Core.Path.{◌≡◌, refl, sym, ap, ◌∙◌}
 use Prim.Native.Nat.{ℕ}
 use native.Mathlib.Omega.{arith}
-use lib.Dec.{T, ltb, ltb→lt}
+use lib.Dec.{T, eqb, ltb, ltb→lt}
+use borrow.Author.Tests.{eqb-true, eqb-false}
 use Rattle.std.specs.Prelude.{Option, None, Some, Result, Ok, Err, OnOk, IfErr, cond, ok_or}
 use Rattle.std.specs.Result.{IsErrAnd, result_err}
 use Rattle.refusals.specs.declared.Refusal.{Refusal}
@@ -99,11 +101,18 @@ last-is (Err e) b r w p s = rw (sym w ∙ s.0) (ap Some s.1)
 
 -- ---- from a decision to its tests
 
+pub number-case : {A : Type 0} (P : A → Type 0) (n : ℕ) (a b : A) → (n ≡ 0 → P a) → ((n ≡ 0 → ⊥) → P b) → P (cond (eqb n 0) a b)
+number-case P n a b none some = go (eqb n 0) refl
+  where
+    go : (t : Bool) → eqb n 0 ≡ t → P (cond t a b)
+    go true e = none (eqb-true n 0 e)
+    go false e = some (eqb-false n 0 e)
+
 pub decide-case : (P : Outcome → Type 0) (p : Plant) (t : Option Refusal) (o : Outcome) → (t ≡ None → P o)
-    → ((r : Refusal) → P (refused p r))
+    → ((r : Refusal) → t ≡ Some r → P (refused p r))
     → P (outcome_of p (decide t o))
 decide-case P p None o taken sent = taken refl
-decide-case P p (Some r) o taken sent = sent r
+decide-case P p (Some r) o taken sent = sent r refl
 
 pub passed-by : (t : Option Refusal) (ts : List (Option Refusal)) → first (t ∷ ts) ≡ None → (t ≡ None) × (first ts ≡ None)
 passed-by None ts e = (refl, e)

@@ -100,7 +100,7 @@ pub step-within : (p : Plant) (r : Request) → record_within p ≡ true → rec
 unfolding step_by ruled
 step-within p r h =
     let rule = rule_by p r.call r.sludge r.digester in
-    decide-case Stays p (first rule.tests) rule.done (done-within p h r.call r.sludge r.digester) (λ n. h)
+    decide-case Stays p (first rule.tests) rule.done (done-within p h r.call r.sludge r.digester) (λ n e. h)
 
 pub fresh-within : (f : Figures) → record_within (fresh_plant f) ≡ true
 unfolding record_within within

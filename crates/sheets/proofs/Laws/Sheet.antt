@@ -263,7 +263,7 @@ module _ (p : Plant) (v : List ℕ) (u : Unseen) where
       decide-case (λ (o : Outcome). (sheet_received u o).told ≡ Err r → sheet_received u o ≡ sheet_refused p r) p (sent.first rule.tests)
       rule.done
       (λ e h. absurd (cc h))
-      (λ q h. let w : q ≡ r = cc h in rw w refl)
+      (λ q e h. let w : q ≡ r = cc h in rw w refl)
 
   receive-adds : (w : Unseen) → let o = step p (receiving v) in (sheet_received u o).told ≡ Ok w
       → sheet_received u o
@@ -275,7 +275,7 @@ module _ (p : Plant) (v : List ℕ) (u : Unseen) where
       decide-case (λ (o : Outcome). (sheet_received u o).told ≡ Ok w → sheet_received u o ≡ record { told = Ok u; plant = q }) p
       (sent.first rule.tests) rule.done
       (λ e h. refl)
-      (λ r h. absurd (cc h))
+      (λ r e h. absurd (cc h))
 
 pub sheet-refused : SheetRefusedLaw
 sheet-refused p s r =

@@ -146,7 +146,7 @@ test-uncounted x scale ceiling e = rw (countable-failed x e)
 
 -- ---- shifts
 
-shifted_none : (n by : ℕ) → n < 18446744073709551616 → 64 ≤ by → 0 ≡ n / 2 ^ by
+pub shifted_none : (n by : ℕ) → n < 18446744073709551616 → 64 ≤ by → 0 ≡ n / 2 ^ by
 shifted_none n by h l = sym (div-eq_of_lt (lt_of_lt_of_le h (pow_mono l)))
 
 -- a shift of 64 places or more leaves nothing

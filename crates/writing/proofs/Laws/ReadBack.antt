@@ -7,6 +7,7 @@
 --   scan-columns    the columns of a vector
 --   scan-handed     a vector that is handed out, behind the beginning of its answer
 --   scan-accepted   the N2 of an accept, behind the 2 of its label
+--   by-table        an answer by its number, and back by the table
 --   answer-read     every answer
 --   columns-read    the vector of a release, and of a draw
 --   answer-same     answers that are written alike are the same
@@ -22,14 +23,17 @@ use Rattle.vectors.specs.Units.{milligrams, ticks}
 use Rattle.std.proofs.lemmas.Bool.{and_parts, false≢true}
 use Rattle.refusals.specs.declared.Refusal.TheVariants.{Other}
 use Rattle.refusals.specs.Refusal.{number}
+use Rattle.refusals.proofs.Laws.Refusal.{number-law}
+use Rattle.plant.specs.declared.answer.Answer.{Answer}
 use Rattle.plant.specs.declared.answer.Answer.TheVariants.{Refused, Received, Fed, Settled, Returned, Released, Recycled, Drawn, Accepted}
 use Rattle.reading.specs.Text.{ascii, same_bytes, look_up, up_to}
 use Rattle.reading.specs.Number.{is_digit, all_digits, value_after, decimal}
 use Rattle.reading.specs.declared.names.Vector.TheVariants.{Sludge}
 use Rattle.reading.specs.Names.{names_of}
-use Rattle.writing.specs.Answer.{labelled, column_text, column_or_none, columns_from, columns_text}
+use Rattle.writing.specs.Answer.{answer_text, labelled, column_text, column_or_none, columns_from, columns_text}
 use Rattle.writing.specs.Answer.{fed_text, accepted_text, told_text, handed_text}
-use Rattle.writing.specs.ReadBack.{scan, numbers_in, read_answer, short, ReadBackLaw, ReadColumnsLaw, SameTextLaw}
+use Rattle.writing.specs.ReadBack.{scan, numbers_in, read_answer, short, all_short, by_number, by_table, is_named}
+use Rattle.writing.specs.ReadBack.{ReadBackLaw, ReadColumnsLaw, SameTextLaw}
 use Rattle.writing.proofs.Laws.Decimal.{decimal-digits, decimal-value}
 
 -- ---- labels and numbers
@@ -144,21 +148,40 @@ scan-accepted m h =
     scan-label (ascii "(ok accept n") (ascii "2 " ++ (decimal m ++ ascii ")")) refl
     ∙ ap (λ (x : List ℕ). 2 ∷ x) (scan-end (ascii " ") m refl h)
 
-pub answer-read : ReadBackLaw
+read-back : (a : Answer) (v : List ℕ) → all_short a → read_answer (answer_text a v) ≡ by_number a
 unfolding read_answer look_up same_bytes up_to columns_from column_or_none column_text told_text handed_text no_digits
-answer-read (Refused r) v h = ap (λ (ns : List ℕ). Refused (Other (get_or ns 0 0))) (scan-end (ascii "(no ") (number r) refl h.0)
-answer-read Received v h = refl
-answer-read (Fed b o n w) v h =
+read-back (Refused r) v h = ap (λ (ns : List ℕ). Refused (Other (get_or ns 0 0))) (scan-end (ascii "(no ") (number r) refl h.0)
+read-back Received v h = refl
+read-back (Fed b o n w) v h =
     ap (λ (ns : List ℕ). Fed (milligrams (get_or ns 0 0)) (milligrams (get_or ns 1 0)) (ticks (get_or ns 2 0)) (get_or ns 3 0))
     (scan-fed b.0 o.0 n.0 w h.1 h.2 h.3 h.4)
-answer-read Settled v h = refl
-answer-read (Returned s) v h =
+read-back Settled v h = refl
+read-back (Returned s) v h =
     ap (λ (ns : List ℕ). Returned (milligrams (get_or ns 0 0))) (scan-end (ascii "(ok return stripped ") s.0 refl h.5)
-answer-read Released v h = refl
-answer-read Recycled v h = refl
-answer-read Drawn v h = refl
-answer-read (Accepted m) v h = ap (λ (ns : List ℕ). Accepted (ticks (get_or ns 1 0))) (scan-accepted m.0 h.6)
+read-back Released v h = refl
+read-back Recycled v h = refl
+read-back Drawn v h = refl
+read-back (Accepted m) v h = ap (λ (ns : List ℕ). Accepted (ticks (get_or ns 1 0))) (scan-accepted m.0 h.6)
+
+by-table : (a : Answer) → is_named a ≡ true → by_table (by_number a) ≡ a
+by-table (Refused r) h = ap Refused (number-law r h)
+by-table Received h = refl
+by-table (Fed b o n w) h = refl
+by-table Settled h = refl
+by-table (Returned s) h = refl
+by-table Released h = refl
+by-table Recycled h = refl
+by-table Drawn h = refl
+by-table (Accepted m) h = refl
+
+pub answer-read : ReadBackLaw
+answer-read a v h =
+    let read = read-back a v h in
+    (read, λ named. ap by_table read ∙ by-table a named)
 
 -- answers that are written alike are the same
 pub answer-same : SameTextLaw
-answer-same a b v w h k e = sym (answer-read a v h) ∙ ap read_answer e ∙ answer-read b w k
+answer-same a b v w h k e =
+    let x = answer-read a v h in
+    let y = answer-read b w k in
+    (sym x.0 ∙ ap read_answer e ∙ y.0, λ na nb. sym (x.1 na) ∙ ap (λ t. by_table (read_answer t)) e ∙ y.1 nb)

@@ -16,14 +16,14 @@ pub returns-in-Settle : goal.returns-in-Settle
 unfolding up_to
 returns-in-Settle c =
     let w = wrote_then c.labelled.ensures.0 c.put_fields-in-Settle.ensures.text (omega arith) in
-    let text = numbered-parts (ascii "settle ") c.in-Settle.g.0 (names_of Digester) c.args.r.digester in
+    let text = numbered-parts (ascii "settle ") c.in-Settle.g.0 (names_of Digester) c.args.r.now.digester in
     call-as _ _ c.in-Settle.is (wrote_same text w, omega arith)
 
 pub returns-in-Accept : goal.returns-in-Accept
 unfolding up_to
 returns-in-Accept c =
     let w = wrote_then c.labelled-in-Accept.ensures.0 c.put_fields-in-Accept.ensures.text (omega arith) in
-    let text = numbered-parts (ascii "accept ") c.in-Accept.n.0 (names_of Sludge) c.args.r.sludge in
+    let text = numbered-parts (ascii "accept ") c.in-Accept.n.0 (names_of Sludge) c.args.r.now.sludge in
     call-as _ _ c.in-Accept.is (wrote_same text w, omega arith)
 
 pub returns-in-Feed : goal.returns-in-Feed

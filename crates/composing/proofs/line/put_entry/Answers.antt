@@ -7,4 +7,4 @@ use Rattle.composing.proofs.line.put_entry.Goals as goal
 pub returns-then-asked : goal.returns-then-asked
 returns-then-asked c =
     let w = wrote_then c.put.ensures (wrote_then c.put_call.ensures.0 c.put-then-asked.ensures (omega arith)) (omega arith) in
-    (wrote_same (entry-preview c.args.asked.request c.if-asked.true) w, omega arith)
+    (wrote_same (entry-preview c.args.asked.now.request c.if-asked.true) w, omega arith)
