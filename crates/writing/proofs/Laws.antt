@@ -5,3 +5,4 @@ pub mod Page
 pub mod Answer
 pub mod OneLine
 pub mod ReadBack
+pub mod Named

@@ -6,7 +6,8 @@
 --   all_short        every number that an answer tells has at most twenty digits, as every number of the code has
 --   by_number        an answer with its refusal by the number
 --   by_table         the other way: with the table's refusal of that number
---   is_named         whether an answer's refusal, where it is one, is the table's, as of each call
+--   is_named         whether an answer's refusal, where it is one, is the table's
+--   NamedLaw         it is, of the answer of each call: named
 --   ReadBackLaw      reading what was written gives the answer back. proofs/Laws/ReadBack.antt proves it: answer-read
 --   ReadColumnsLaw   and the vector of a release, and of a draw: columns-read
 --   SameTextLaw      two answers that differ are written differently, but for one number by two refusals: answer-same
@@ -16,7 +17,10 @@ use Rattle.refusals.specs.Refusal.{number, of_number, in_table}
 use Rattle.vectors.specs.Units.{milligrams, ticks}
 use Rattle.plant.specs.declared.answer.Answer.{Answer}
 use Rattle.plant.specs.declared.answer.Answer.TheVariants.{Refused, Received, Fed, Settled, Returned, Released, Recycled, Drawn, Accepted}
+use Rattle.plant.specs.declared.record.Plant.{Plant}
+use Rattle.plant.specs.declared.answer.Request.{Request}
 use Rattle.plant.specs.Answer.{told}
+use Rattle.plant.specs.Calls.{step}
 use Rattle.reading.specs.Text.{Word, ◌means◌, look_up, up_to, space, closing}
 use Rattle.reading.specs.Number.{is_digit}
 use Rattle.writing.specs.Answer.{answer_text}
@@ -83,6 +87,9 @@ by_table a = a
 abbrev pub is_named : Answer → Bool
 is_named (Refused r) = in_table r
 is_named a = true
+
+abbrev pub NamedLaw : Type 0
+NamedLaw = (p : Plant) (r : Request) → is_named (step p r).answer ≡ true
 
 -- what is read back has the refusal by its number, and by the table it is the answer itself
 abbrev pub ReadBackLaw : Type 0
