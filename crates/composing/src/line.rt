@@ -36,8 +36,8 @@ pub fn filled_line<'a>(buf: &'a mut [u8], asked: Asked) -> (&'a [u8], &'a [u8])
     split_filled(buf, n)
 }
 
-// A call, or a preview of it. It is lent, as in `put_call`: both vectors stand in it, and each copy of them takes as long as the line of a
-// call with a number.
+// A call, or a preview of it. It is lent, as in `put_call`: both vectors stand in it, and the copies of them took as long as the rest of the
+// line of a call with a number.
 fn put_entry(page: &mut Page, asked: &Asked)
     requires { HasRoom page.old 1024 }
     ensures { (Wrote page.old (entry_text asked.now.preview asked.now.request) page.new) × (page.new.at ≤ page.old.at + 1024) }

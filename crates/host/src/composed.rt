@@ -82,8 +82,8 @@ pub extern "C" fn jilghvani_write_accept(
     written(accepting(v, n), preview, buf)
 }
 
-// The line of a request; the preview is a number because C asks for it so. Inline, so that the request is built where its line is written:
-// a copy of its two vectors takes as long as the line of a call with a number.
+// The line of a request; the preview is a number because C asks for it so. Inline, so that the request is built where its line is written,
+// and its two vectors are not copied.
 #[inline]
 fn written(request: Request, preview: u64, buf: &mut [u8]) -> usize
     ensures { Composed request preview buf.old result buf.new }

@@ -7,7 +7,7 @@
 --   by_number        an answer with its refusal by the number
 --   by_table         the other way: with the table's refusal of that number
 --   is_named         whether an answer's refusal, where it is one, is the table's
---   NamedLaw         it is, of the answer of each call: named
+--   NamedLaw         it is, of the answer of each call. proofs/Laws/Named.antt proves it: named
 --   ReadBackLaw      reading what was written gives the answer back. proofs/Laws/ReadBack.antt proves it: answer-read
 --   ReadColumnsLaw   and the vector of a release, and of a draw: columns-read
 --   SameTextLaw      two answers that differ are written differently, but for one number by two refusals: answer-same

@@ -98,7 +98,8 @@ tests-named p (call.Feed k) v d =
     (record-named p, (unless-named (thousandths k) NotThousandths refl, fed-named p x (feed-err p.figures (drawn k p.sludge))))
 tests-named p (call.Settle gas) v d =
     let old = p.digester in
-    let tkn = digester_tkn p.figures in (
+    let tkn = digester_tkn p.figures in
+    let carried = eqb (digester_oxygen old) (digester_oxygen d) && eqb (digester_nitrate old) (digester_nitrate d) in (
       record-named p,
       (
         unless-named (within digester_ceilings d) ColumnAbove refl,
@@ -106,10 +107,7 @@ tests-named p (call.Settle gas) v d =
           unless-named (eqb (digester_cod old) (digester_cod d + gas.0)) CodOpen refl,
           (
             unless-named (eqb (tkn old) (tkn d)) TknOpen refl,
-            (
-              unless-named (eqb (digester_oxygen old) (digester_oxygen d) && eqb (digester_nitrate old) (digester_nitrate d)) CarriedOpen refl,
-              tt,
-            ),
+            (unless-named carried CarriedOpen refl, tt),
           ),
         ),
       ),

@@ -7,10 +7,11 @@
 --   scan-columns    the columns of a vector
 --   scan-handed     a vector that is handed out, behind the beginning of its answer
 --   scan-accepted   the N2 of an accept, behind the 2 of its label
+--   read-back       every answer, its refusal by the number
 --   by-table        an answer by its number, and back by the table
---   answer-read     every answer
+--   answer-read     both: by the table what is read back is the answer itself
 --   columns-read    the vector of a release, and of a draw
---   answer-same     answers that are written alike are the same
+--   answer-same     answers that are written alike are the same, by the number where a refusal is not the table's
 use mathlib.Core.Bool.{Bool, true, false, cond, not, ◌&&◌}
 use mathlib.Core.List.{List, [], ◌∷◌, ◌++◌, append_assoc, append-nil}
 use mathlib.Core.Path.{◌≡◌, refl, sym, ap, ◌∙◌}
@@ -179,7 +180,6 @@ answer-read a v h =
     let read = read-back a v h in
     (read, λ named. ap by_table read ∙ by-table a named)
 
--- answers that are written alike are the same
 pub answer-same : SameTextLaw
 answer-same a b v w h k e =
     let x = answer-read a v h in
